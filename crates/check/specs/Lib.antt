@@ -1,0 +1,4 @@
+-- The rules of the checks.
+pub mod Reading
+pub mod Division
+pub mod Addition
