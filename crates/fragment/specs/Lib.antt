@@ -1,0 +1,5 @@
+pub mod Carriers
+pub mod Counts
+pub mod Streams
+pub mod Cutting
+pub mod Laws
