@@ -1,0 +1,14 @@
+pub mod Over
+pub mod Sets
+pub mod Sealed
+pub mod Writing
+pub mod Records
+pub mod ReadBack
+pub mod ResponseBack
+pub mod Refusals
+pub mod Stages
+pub mod ResponseRefusals
+pub mod WriteRefusals
+pub mod HeaderFields
+pub mod RecordFields
+pub mod ReadRefusals

@@ -1,0 +1,10 @@
+pub mod Octets
+pub mod Blocks
+pub mod Images
+pub mod Sealing
+pub mod Layout
+pub mod Reading
+pub mod Views
+pub mod Responses
+pub mod ReadBack
+pub mod Refusals
