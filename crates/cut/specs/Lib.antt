@@ -1,0 +1,4 @@
+pub mod Names
+pub mod Joining
+pub mod Lines
+pub mod Outcomes
