@@ -1,0 +1,16 @@
+pub mod Storing
+pub mod Admitting
+pub mod Reading
+pub mod Keeping
+pub mod Calling
+pub mod Hearing
+pub mod Asking
+pub mod Filling
+pub mod Lasting
+pub mod Joining
+pub mod Refusing
+pub mod Rising
+pub mod Overwriting
+pub mod Holding
+pub mod Appending
+pub mod Promising

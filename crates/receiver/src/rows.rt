@@ -1,0 +1,117 @@
+// Phase and event meet: the rows of the protocol, the phase changed in place.
+ghost use mathlib.Core.Path.{_≡_};
+ghost use Rattle.receiver.specs.Rows.{idle, lost, filling, row, rowOf, stray, gathering, eventOf};
+use crate::state::Act;
+use crate::state::Event;
+use crate::state::Gathering;
+use crate::state::Phase;
+use crate::state::State;
+use packet::values::Code;
+use packet::values::Header;
+
+impl Gathering {
+    // What a full packet begins.
+    fn of(start: bool, header: Header) -> Gathering
+        ensures { λ r. ⌜ r ≡ gathering start header ⌝ }
+    {
+        Gathering { number: header.number, start, blocks: header.records, pad: header.pad }
+    }
+}
+
+impl Event {
+    pub(crate) fn of(header: Header) -> Event
+        ensures { λ r. ⌜ r ≡ eventOf header ⌝ }
+    {
+        if header.selective {
+            Event::Selective(header)
+        } else if header.start {
+            Event::FullStart(header)
+        } else {
+            Event::Full(header)
+        }
+    }
+}
+
+impl State {
+    pub(crate) fn idle(&mut self)
+        ensures { λ _. ⌜ now (self .exit) ≡ idle (now (self .entry)) ⌝ }
+    {
+        self.phase = Phase::Idle;
+        self.filled = 0;
+    }
+
+    fn lose(&mut self) -> Act
+        ensures { λ r. ⌜ row (now (self .exit)) r ≡ lost (now (self .entry)) ⌝ }
+    {
+        self.idle();
+        Act::Answer(Code::OutOfStep)
+    }
+
+    fn stray(&mut self, header: Header) -> Act
+        ensures { λ r. ⌜ row (now (self .exit)) r ≡ stray (now (self .entry)) header ⌝ }
+    {
+        if header.start { Act::Answer(Code::FullRetry) } else { self.lose() }
+    }
+
+    // Sets out to collect a fragment.
+    fn collect(&mut self, g: Gathering) -> Act
+        ensures { λ r. ⌜ row (now (self .exit)) r ≡ filling (now (self .entry)) g ⌝ }
+    {
+        self.phase = Phase::Collecting(g);
+        Act::Fill(g)
+    }
+
+    pub(crate) fn meet(&mut self, event: Event) -> Act
+        ensures { λ r. ⌜ row (now (self .exit)) r ≡ rowOf (now (self .entry)) event ⌝ }
+    {
+        match (event, self.phase) {
+            (Event::FullStart(h), _) => {
+                self.filled = 0;
+                self.blocks.renew();
+                self.collect(Gathering::of(true, h))
+            }
+            (Event::Full(h), Phase::Collecting(g)) => {
+                if h.number != g.number || g.start {
+                    return self.lose();
+                }
+                if h.records != g.blocks || h.pad != g.pad {
+                    self.blocks.renew();
+                }
+                self.collect(Gathering::of(false, h))
+            }
+            (Event::Full(h), Phase::Waiting(v)) => {
+                if h.number == v {
+                    return Act::Answer(Code::Ack);
+                }
+                if v == 0 || h.number != v - 1 {
+                    return self.lose();
+                }
+                self.blocks.renew();
+                self.collect(Gathering::of(false, h))
+            }
+            (Event::Full(h), Phase::Done) => {
+                if h.number == 0 { Act::Answer(Code::Ack) } else { self.lose() }
+            }
+            (Event::Full(_), Phase::Idle) => self.lose(),
+            (Event::Selective(h), Phase::Collecting(g)) => {
+                if h.number == g.number && h.start == g.start { self.collect(g) } else { self.stray(h) }
+            }
+            (Event::Selective(h), Phase::Waiting(v)) => {
+                if h.number == v { Act::Answer(Code::Ack) } else { self.stray(h) }
+            }
+            (Event::Selective(h), Phase::Done) => {
+                if h.number == 0 { Act::Answer(Code::Ack) } else { self.stray(h) }
+            }
+            (Event::Selective(h), Phase::Idle) => self.stray(h),
+            (Event::Expiry, Phase::Collecting(_)) => {
+                self.idle();
+                Act::Rest
+            }
+            (Event::Expiry, Phase::Waiting(_)) => {
+                self.idle();
+                Act::Rest
+            }
+            (Event::Expiry, _) => Act::Rest,
+        }
+    }
+}

@@ -1,0 +1,3 @@
+pub mod Putting
+pub mod Hearing
+pub mod Running
