@@ -22,7 +22,7 @@ const BLOCKS: [u8; 317] = [
     16, 16, 16, 16, 16, 16, 16, 16, 16, 16, 16, 16, 16, 16, 16, 16, 16,
 ];
 
-pub fn data_call_blocks(octets: usize) -> Option<usize>
+pub(crate) fn data_call_blocks(octets: usize) -> Option<usize>
     ensures { λ r. ⌜ r ≡ blocksFor dataCall octets ⌝ }
 {
     if octets > 316 {

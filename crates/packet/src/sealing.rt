@@ -38,7 +38,7 @@ fn stream_octet(serial: u32, message: &[u8], place: usize) -> u8
 
 impl<C> Image<'_, '_, C> {
     // The octet at a place of the image.
-    pub fn octet(&self, place: usize) -> u8
+    pub(crate) fn octet(&self, place: usize) -> u8
         requires { ⌜ length (now (now self .message)) ≡ now (now self .fragment) .message ⌝ ∗ ⌜ place < now (now self .fragment) .octets + now (now self .fragment) .pad + 4 ⌝ }
         ensures { λ r. ⌜ r ≡ getD (imageIn (now (self .entry))) place 0 ⌝ }
     {
