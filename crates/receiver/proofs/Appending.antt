@@ -1,23 +1,21 @@
 -- An image in the block store: its check is right, and its data is what is appended.
-use mathlib.Core.Path.{_≡_, refl, sym, ap, _∙_}
+use mathlib.Core.Path.{_≡_, sym, ap, _∙_}
 use mathlib.Core.List.{List, _++_}
 use Prim.Native.Nat.{ℕ, _+_, _-_, _*_, _^_, _<_, _≤_}
 use native.Mathlib.Omega.{arith}
-use lib.Dec.{eqb}
-use lib.ListN.{length, take, drop, getD, replicate}
+use lib.ListN.{length, take, drop, replicate}
 use Rattle.std.proofs.shelf.Bits.{mod-pow-add}
 use Rattle.std.proofs.shelf.Lists.{getD-take, take-take, take-at, drop-at, drop-take}
 use Rattle.std.proofs.shelf.Tests.{eq-eqb}
-use Rattle.std.specs.declared.result.Result.the-variants.{Ok}
 use Rattle.fragment.specs.Carriers.{Terms, Sound}
-use Rattle.fragment.specs.Cutting.{Piece, pieceAt, fragmentsOf}
+use Rattle.fragment.specs.Cutting.{Piece, pieceAt}
 use Rattle.fragment.specs.Laws.{WellCut, dataIn}
 use Rattle.fragment.specs.Streams.{fourAt, fourOctets, streamOf}
 use Rattle.fragment.proofs.Cuts.{well-cut}
-use Rattle.packet.specs.Images.{covered, imageOf}
+use Rattle.packet.specs.Images.{covered}
 use Rattle.packet.proofs.Sealed.{length-part, length-covered}
 use Rattle.receiver.specs.Fill.{octetsOf}
-use Rattle.receiver.specs.Laws.{Checked, Appends, AppendsData}
+use Rattle.receiver.specs.Laws.{Checked, AppendsData}
 
 four-at : (x : ℕ) → x < 2 ^ 32 → fourAt (fourOctets x) ≡ x
 four-at x h = omega (arith, mod-pow-add x 8 8, mod-pow-add x 8 16, mod-pow-add x 8 24)

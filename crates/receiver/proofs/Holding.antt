@@ -13,12 +13,11 @@ use Rattle.fragment.specs.Carriers.{Terms, Sound}
 use Rattle.packet.specs.declared.values.Header.{Header}
 use Rattle.packet.specs.Images.{blockOf}
 use Rattle.packet.specs.Reading.{recordPlace, readOf, blockAt}
-use Rattle.packet.specs.Refusals.{recordsAt, numberAt, qualityAt, GoodRecord}
+use Rattle.packet.specs.Refusals.{recordsAt, numberAt, qualityAt}
 use Rattle.packet.proofs.Over.{length-over}
-use Rattle.packet.proofs.Sealed.{length-part}
 use Rattle.receiver.specs.declared.state.BlockStore.{BlockStore}
-use Rattle.receiver.specs.Store.{putOf, putIn, filledFrom, filledBy}
-use Rattle.receiver.specs.Laws.{Brings, Filled, FillHolds}
+use Rattle.receiver.specs.Store.{putIn, filledFrom}
+use Rattle.receiver.specs.Laws.{Brings, FillHolds}
 use Rattle.receiver.proofs.Storing.{block-within}
 use Rattle.receiver.proofs.Reading.{foundAt, header-is, storable, block-there, block-bad}
 use Rattle.receiver.proofs.Rising.{rises}

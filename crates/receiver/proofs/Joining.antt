@@ -1,19 +1,18 @@
 -- When a selective packet fits the fragment that is being collected.
-use mathlib.Core.Path.{_≡_, refl, sym, ap, subst, _∙_}
+use mathlib.Core.Path.{_≡_, refl, ap, subst, _∙_}
 use mathlib.Core.Logic.{_⊎_, _↔_, inl, inr}
-use mathlib.Core.Bool.{Bool, true, false, _&&_, cond}
+use mathlib.Core.Bool.{Bool, true, _&&_, cond}
 use mathlib.Core.List.{List}
 use Prim.Native.Nat.{ℕ, zero, suc, _+_, _<_, _≤_}
 use native.Mathlib.Omega.{arith}
-use lib.Dec.{eqb, leb}
+use lib.Dec.{eqb}
 use Rattle.std.proofs.shelf.Tests.{cases-bool, cases-order, both-ways, and-parts, and-from, eqb-true, eq-eqb, le-leb, leb-true, cond-true, cond-false}
 use Rattle.std.specs.declared.option.Option.{Option}
 use Rattle.std.specs.declared.option.Option.the-variants.{Some, None}
 use Rattle.std.specs.declared.result.Result.the-variants.{Ok}
 use Rattle.fragment.specs.Carriers.{Terms}
 use Rattle.packet.specs.declared.values.Header.{Header}
-use Rattle.packet.specs.Reading.{Block, blockAt, recordPlace, readOf, headerAt}
-use Rattle.packet.specs.Refusals.{recordsAt}
+use Rattle.packet.specs.Reading.{Block, blockAt, recordPlace, readOf}
 use Rattle.packet.proofs.Refusals.{else-false}
 use Rattle.receiver.specs.declared.state.Gathering.{Gathering}
 use Rattle.receiver.specs.declared.state.Phase.{Phase}

@@ -1,25 +1,24 @@
 -- Only a hand-up changes what was handed up last.
 use mathlib.Core.Path.{_≡_, refl, _∙_}
-use mathlib.Core.Bool.{Bool, true, false, not, _&&_, cond}
+use mathlib.Core.Bool.{not, _&&_}
 use mathlib.Core.List.{List}
 use Prim.Native.Nat.{ℕ, _+_}
 use native.Mathlib.Omega.{arith}
 use lib.Dec.{eqb, leb}
 use lib.ListN.{length}
 use Rattle.std.proofs.shelf.Tests.{cond-both}
-use Rattle.std.specs.declared.option.Option.the-variants.{Some, None}
+use Rattle.std.specs.declared.option.Option.the-variants.{None}
 use Rattle.fragment.specs.Carriers.{Terms}
 use Rattle.packet.specs.declared.values.Header.{Header}
 use Rattle.receiver.specs.declared.state.Gathering.{Gathering}
 use Rattle.receiver.specs.declared.state.Phase.{Phase}
 use Rattle.receiver.specs.declared.state.Phase.the-variants.{Idle, Collecting, Waiting, Done}
 use Rattle.receiver.specs.declared.state.State.{State}
-use Rattle.receiver.specs.declared.state.Event.{Event}
-use Rattle.receiver.specs.declared.state.Event.the-variants.{FullStart, Full, Selective, Expiry}
+use Rattle.receiver.specs.declared.state.Event.the-variants.{FullStart, Full}
 use Rattle.receiver.specs.declared.state.Act.{Act}
 use Rattle.receiver.specs.declared.state.Act.the-variants.{Rest, Answer, Fill}
 use Rattle.receiver.specs.Store.{missingOf, isRight}
-use Rattle.receiver.specs.Rows.{Row, same, stray, fullRow, selectiveRow, expiryRow, rowOf, eventOf}
+use Rattle.receiver.specs.Rows.{Row, same, stray, fullRow, selectiveRow, rowOf, eventOf}
 use Rattle.receiver.specs.Fill.{After, isLast, serialIn, appended, octetsOf, finished, filled, doneBy, heardOf}
 
 -- What is handed up, or at Idle, is as it was.

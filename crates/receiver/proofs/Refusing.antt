@@ -1,11 +1,9 @@
 -- When a packet's call refuses.
 use mathlib.Core.Path.{_≡_, refl, sym, ap, subst, _∙_}
-use mathlib.Core.Logic.{_⊎_, _↔_, _≢_, inl, inr}
-use mathlib.Core.Bool.{Bool, true, false, cond}
+use mathlib.Core.Logic.{_⊎_, _↔_, inl, inr}
 use mathlib.Core.List.{List}
 use Prim.Native.Nat.{ℕ, _<_, _≤_}
 use native.Mathlib.Omega.{arith}
-use lib.Dec.{eqb, leb}
 use Rattle.std.proofs.shelf.Tests.{cases-lt, cases-eq, eq-eqb, ne-eqb, le-leb, lt-leb}
 use Rattle.std.specs.declared.option.Option.{Option}
 use Rattle.std.specs.declared.option.Option.the-variants.{Some, None}
@@ -27,7 +25,7 @@ use Rattle.receiver.specs.declared.state.Gathering.{Gathering}
 use Rattle.receiver.specs.declared.state.Phase.{Phase}
 use Rattle.receiver.specs.declared.state.Heard.{Heard}
 use Rattle.receiver.specs.Calls.{unfitOf, unlessUnfit, admitOf}
-use Rattle.receiver.specs.Laws.{ReadWith, FromPeer, ToHere, Joins, PastLast, OfStranger, ForAnother, Joining, OtherPad, OtherBlock, CallRefusals}
+use Rattle.receiver.specs.Laws.{ReadWith, FromPeer, ToHere, Joins, PastLast, OfStranger, ForAnother, OtherPad, OtherBlock, CallRefusals}
 use Rattle.receiver.proofs.Reading.{header-is}
 use Rattle.receiver.proofs.Joining.{past-none, past-first, past-decided, joins-decided, joins-unfit, none-unfit}
 

@@ -1,7 +1,7 @@
 -- What the receiver's calls keep to, in the words of the protocol.
 use mathlib.Core.Path.{_≡_}
 use mathlib.Core.Logic.{_↔_, _⊎_, _≢_}
-use mathlib.Core.Bool.{Bool, true, false}
+use mathlib.Core.Bool.{true, false}
 use mathlib.Core.List.{List}
 use Prim.Native.Nat.{ℕ, _+_, _-_, _*_, _<_, _≤_}
 use lib.ListN.{length, take, drop, getD}
@@ -126,6 +126,7 @@ pub record FillRows (t : Terms) (number : List ℕ → ℕ) (s : State) (store :
       → g .start ≡ true → s .last ≡ Some (lastWith t s store g)
       → finished t number s store g ≡ answered (moved s Done (filledWith t s g) (s .last)) (storeWith t s store g) Ack
 
+-- Every packet and every fill keeps to its rows.
 pub record Rows (t : Terms) (number : List ℕ → ℕ) : Type 0 where
   pub packet : (s : State) (store : List ℕ) (h : Header) (xs : List ℕ) → PacketRows t number s store h xs
   pub fill : (s : State) (store : List ℕ) (g : Gathering) → FillRows t number s store g

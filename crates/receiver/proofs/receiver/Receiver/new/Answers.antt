@@ -1,5 +1,6 @@
 -- A fresh receiver has a fresh block store.
 use mathlib.Core.Path.{_≡_, refl, sym, ap, _∙_}
+use native.Mathlib.Omega.{arith}
 use lib.Dec.{leb}
 use lib.ListN.{length}
 use Rattle.std.proofs.shelf.Tests.{cond-true, le-leb}
@@ -17,6 +18,6 @@ returns g c =
     record {
       state =
         ap {B = Result State EndFault} (λ (b : BlockStore). Ok (record { phase = Idle; blocks = b; filled = 0; last = None })) (c .new .ensures)
-        ∙ sym (cond-true (leb 5 (length (c .args .store .now))) _ _ (le-leb 5 (length (c .args .store .now)) (c .if-store-lt-LEAST-STORE .left)));
+        ∙ sym (cond-true (leb 5 (length (c .args .store .now))) _ _ (le-leb 5 (length (c .args .store .now)) (omega arith)));
       route = refl
     }
