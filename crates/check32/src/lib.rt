@@ -1,4 +1,6 @@
 // The 32-bit check as an interface with its one-octet law, and two checks that keep it.
+#![tactic(auto)]
+
 ghost use Rattle.std.specs.Prelude.{◌≡◌, ℕ, ◌^◌, ◌<◌, List, [], ◌++◌, length, ◌≢◌, slice_index, slice_set};
 
 mod polynomial;

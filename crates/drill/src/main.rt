@@ -1,4 +1,5 @@
 // Plays the drill on standard input, and prints what it tells.
+#![tactic(auto)]
 use play::answer;
 use std::io::Read;
 

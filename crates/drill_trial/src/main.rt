@@ -1,4 +1,5 @@
 // Plays the drills in the files that its arguments name, and prints what each tells behind its name.
+#![tactic(auto)]
 use play::answer;
 use std::alloc::AllocError;
 use std::{env, fs};

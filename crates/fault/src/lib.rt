@@ -1,4 +1,6 @@
 // What a refusal is: the faults of the packet and the end layer, each with its number, layer and octet place.
+#![tactic(auto)]
+
 ghost use Rattle.std.specs.Prelude.{◌≡◌, Some, codes};
 ghost use Rattle.fault.specs.Faults.{packet_number, packet_place, end_number, end_layer, end_place, layer_name};
 ghost use Rattle.fault.specs.declared.EndFault.TheVariants.{Packet};

@@ -1,4 +1,5 @@
 // Carriers, block counts, cutting a stream into fragments and joining it again.
+#![tactic(auto)]
 pub mod carrier;
 pub mod cutting;
 pub mod piece;

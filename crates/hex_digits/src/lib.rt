@@ -1,4 +1,6 @@
 // Octets as lowercase hexadecimal digits: written and read.
+#![tactic(auto)]
+
 ghost use Rattle.std.specs.Prelude.{◌≡◌, ◌+◌, ◌<◌, ◌++◌, IfOk, Some, vec_items, MatchResult};
 ghost use Rattle.std.specs.Option.{option_map};
 ghost use Rattle.hex_digits.specs.Digits.{digit_of, value_of, hex_of, octets_of};

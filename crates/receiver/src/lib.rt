@@ -1,4 +1,5 @@
 // The receiving end: block store, phases, hand-up.
+#![tactic(auto)]
 mod admit;
 mod blocks;
 pub mod calls;

@@ -1,4 +1,5 @@
 // The text of a drill: what it asks for, or its first wrong line.
+#![tactic(auto)]
 mod forms;
 mod heads;
 mod lines;

@@ -1,3 +1,4 @@
 // What a drill tells, line by line: its faults, and the lines that answer it.
+#![tactic(auto)]
 pub mod fault;
 pub mod print;
