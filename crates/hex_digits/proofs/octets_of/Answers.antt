@@ -11,4 +11,4 @@ loop-rest-preserved c =
     let rest = c.loop-rest.rest.now in
     let step = octets-more c.loop-rest.octets.items rest c.in-Some-Some.high c.in-Some-Some.low c.in-Some-Some.ensures c.in-Some-Some.ensures' in
     rw take_rest
-    (ap (λ items. option_map (λ more. items ++ more) (octets_of (drop 2 rest))) c.in-ok-push.ensures.items ∙ step ∙ c.loop-rest.invariant)
+    (ap (λ items. option_map (λ more. items ++ more) (octets_of (drop 2 rest))) c.in_ok-push.ensures.items ∙ step ∙ c.loop-rest.invariant)

@@ -5,13 +5,13 @@ use Rattle.hex_digits.proofs.Back.{octets-back}
 use Rattle.hex_digits.proofs.Steps.{hex-more, hex-all}
 use Rattle.hex_digits.proofs.push_hex.Goals as goal
 
-pub returns-in-err-reserve : goal.returns-in-err-reserve
-returns-in-err-reserve c =
+pub returns-in_err-reserve : goal.returns-in_err-reserve
+returns-in_err-reserve c =
     record {
       after =
-          let p = err_from_is_err_and c.from-residual.result c.from-residual.ensures.1 in
-          rw p.1 c.in-err-reserve.ensures.items;
-      back = octets-back c.args.octets.now (λ k. let h = c.type-inv.octets k in omega arith);
+          let p = err_from_is_err_and c.from_residual.result c.from_residual.ensures.1 in
+          rw p.1 c.in_err-reserve.ensures.items;
+      back = octets-back c.args.octets.now (λ k. let h = c.type_inv.octets k in omega arith);
     }
 
 pub loop-octet-preserved : goal.loop-octet-preserved
@@ -23,6 +23,6 @@ returns c =
     record {
       after =
           let all = hex-all c.loop-octet.text.items c.args.octets.now c.loop-octet.octet-index c.loop-octet-test.false in
-          let before = c.in-ok-reserve.ensures.items in cc;
-      back = octets-back c.args.octets.now (λ k. let h = c.type-inv.octets k in omega arith);
+          let before = c.in_ok-reserve.ensures.items in cc;
+      back = octets-back c.args.octets.now (λ k. let h = c.type_inv.octets k in omega arith);
     }

@@ -9,5 +9,5 @@ pub returns : goal.returns
 returns c =
     let t : ltb (length c.args.stream.now) 4 ≡ false = le-ltb (length c.args.stream.now) 4 (omega arith) in
     let m : take (length c.args.stream.now - 4) (drop 4 c.args.stream.now) ≡ drop 4 c.args.stream.now = take_rest c.args.stream.now 4 in
-    let s : c.from-be-bytes-serial.result ≡ four_at c.args.stream.now = omega (arith, c.from-be-bytes-serial.ensures) in
+    let s : c.from_be_bytes-serial.result ≡ four_at c.args.stream.now = omega (arith, c.from_be_bytes-serial.ensures) in
     rw t (cc)

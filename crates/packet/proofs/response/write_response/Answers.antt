@@ -11,7 +11,7 @@ pub returns : goal.returns
 returns c =
     let value : written (Ok 10) c.put.new.buffer ≡ responded_of c.args.response c.args.buffer.now =
     ap (λ (b : List ℕ). written (Ok 10) b) (c.put.ensures ∙ ap (λ xs. over 0 xs c.args.buffer.now) c.octets.ensures)
-    ∙ sym (cond-true (leb 10 (length c.args.buffer.now)) _ _ (le-leb 10 (length c.args.buffer.now) c.if-buffer-lt-HEADER-OCTETS.false)) in
+    ∙ sym (cond-true (leb 10 (length c.args.buffer.now)) _ _ (le-leb 10 (length c.args.buffer.now) c.if-buffer-lt-HEADER_OCTETS.false)) in
     let source : c.args.response.route.source < 65536 = search rules in
     let destination : c.args.response.route.destination < 65536 = search rules in
     let flags : code_flags c.args.response.code < 65536 = search rules in

@@ -13,5 +13,5 @@ returns g c =
     ∙ c.update.ensures _
     ∙ same_number c.start-check.ensures _
     ∙ ap g.K.Check.number
-    (parts-covered (four_octets c.args.serial) c.args.message.now f.offset f.octets f.pad c.min.result c.min-2.result c.saturating-sub.result c.saturating-sub-2.result c.to-be-bytes.result
-    c.to-be-bytes.ensures refl c.min.ensures c.min-2.ensures c.saturating-sub.ensures c.saturating-sub-2.ensures (omega (arith, f.inside, c.requires)) (omega (arith, f.tight, f.narrow)))
+    (parts-covered (four_octets c.args.serial) c.args.message.now f.offset f.octets f.pad c.min.result c.min-2.result c.saturating_sub.result c.saturating_sub-2.result c.to_be_bytes.result
+    c.to_be_bytes.ensures refl c.min.ensures c.min-2.ensures c.saturating_sub.ensures c.saturating_sub-2.ensures (omega (arith, f.inside, c.requires)) (omega (arith, f.tight, f.narrow)))

@@ -33,9 +33,9 @@ returns g c =
     let f = c.args.fragment.now in
     answered _ g.K.Check.number c.args.route c.args.serial (piece_of f) _ _ _ g.met.C.Carrier.sound (search rules) (search rules) _ _
     (packet-written g.C.Carrier.terms g.K.Check.number c.args.route c.args.serial (piece_of f) c.args.blocks c.args.message.now c.args.packet.now
-    (10 + c.from.result * (f.block + 3)) c.write-records.new.packet
+    (10 + c.from.result * (f.block + 3)) c.write_records.new.packet
     c.if-message-fragment.false (sym c.fit.ensures ∙ c.if-not-fit.false)
     (ap (λ n. 10 + n * (f.block + 3)) (c.from.ensures ∙ c.count-count.ensures)) c.if-packet-length.false
     (packet-over g.C.Carrier.terms g.K.Check.number c.args.route c.args.serial (piece_of f) c.args.blocks c.args.message.now c.args.packet.now
-    c.count-count.result c.seal-of-seal.result c.is-selective.result c.octets.result c.put.new.buffer c.write-records.new.packet
-    c.count-count.ensures c.is-selective.ensures c.seal-of-seal.ensures c.octets.ensures c.put.ensures c.write-records.ensures (omega (arith, c.if-packet-length.false))))
+    c.count-count.result c.seal_of-seal.result c.is_selective.result c.octets.result c.put.new.buffer c.write_records.new.packet
+    c.count-count.ensures c.is_selective.ensures c.seal_of-seal.ensures c.octets.ensures c.put.ensures c.write_records.ensures (omega (arith, c.if-packet-length.false))))

@@ -4,7 +4,7 @@ use Rattle.std.proofs.lemmas.Bool.{le-leb, lt-leb}
 use Rattle.packet.specs.Reading.{Block, block_at}
 use Rattle.receiver.proofs.Storing.{past-here, past-on}
 use Rattle.receiver.proofs.admit.past.Goals as goal
-use Rattle.receiver.proofs.admit.past.Goals.{in-Some+else-block-blocks, in-default}
+use Rattle.receiver.proofs.admit.past.Goals.{in-Some+else-block-blocks, in_default}
 
 pub returns-then-block-blocks : goal.returns-then-block-blocks
 returns-then-block-blocks c =
@@ -24,6 +24,6 @@ loop-i-preserved c =
           (let b : Block = record { number = w.in-Some.block.number; octets = w.in-Some.block.octets.now } in
           past-on p.size p.header p.octets.now c.args.blocks p.header.records c.loop-i.i (Some b) _ c.loop-i-test.true (w.in-Some.ensures ∙ at) c.loop-i.invariant
           (lt-leb c.args.blocks w.in-Some.block.number w.if-block-blocks.false))
-      | in-default w ↦
-          past-on p.size p.header p.octets.now c.args.blocks p.header.records c.loop-i.i None _ c.loop-i-test.true (w.in-default.ensures ∙ at) c.loop-i.invariant refl
+      | in_default w ↦
+          past-on p.size p.header p.octets.now c.args.blocks p.header.records c.loop-i.i None _ c.loop-i-test.true (w.in_default.ensures ∙ at) c.loop-i.invariant refl
     ]

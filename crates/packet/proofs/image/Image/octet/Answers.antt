@@ -10,7 +10,7 @@ pub returns-then-place-content : goal.returns-then-place-content
 returns-then-place-content g c =
     let i = c.args.self.now in
     let f = i.fragment.now in
-    c.stream-octet.ensures ∙ sym (in-data (stream_of i.serial i.message.now) (four_octets i.seal) f.offset f.octets f.pad c.args.place (omega (arith, f.inside, c.requires.0)) (omega arith))
+    c.stream_octet.ensures ∙ sym (in-data (stream_of i.serial i.message.now) (four_octets i.seal) f.offset f.octets f.pad c.args.place (omega (arith, f.inside, c.requires.0)) (omega arith))
 
 pub returns-then-place-sealed : goal.returns-then-place-sealed
 returns-then-place-sealed g c =
@@ -25,6 +25,6 @@ returns-else-place-sealed g c =
     let f = i.fragment.now in
     let n = length_part (stream_of i.serial i.message.now) f.offset f.octets (omega (arith, f.inside, c.requires.0)) in
     let e = in-check (data_in (piece_of f) (stream_of i.serial i.message.now)) (four_octets i.seal) f.pad c.args.place (omega arith) in
-    ap (λ (xs : List ℕ). get_or xs (c.args.place - (f.octets + f.pad)) 0) c.to-be-bytes.ensures
+    ap (λ (xs : List ℕ). get_or xs (c.args.place - (f.octets + f.pad)) 0) c.to_be_bytes.ensures
     ∙ ap (λ k. get_or (four_octets i.seal) (c.args.place - (k + f.pad)) 0) (sym n)
     ∙ sym e

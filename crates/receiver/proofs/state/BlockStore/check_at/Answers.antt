@@ -8,4 +8,4 @@ returns c =
     let xs = c.args.self.now.octets in
     let first : get_or (drop c.args.end xs) 0 0 ≡ get_or xs c.args.end 0 =
     get_or-drop c.args.end xs 0 0 ∙ ap (λ k. get_or xs k 0) (let e : c.args.end + 0 ≡ c.args.end = omega arith in e) in
-    omega (arith, c.from-be-bytes.ensures, first, get_or-drop c.args.end xs 1 0, get_or-drop c.args.end xs 2 0, get_or-drop c.args.end xs 3 0)
+    omega (arith, c.from_be_bytes.ensures, first, get_or-drop c.args.end xs 1 0, get_or-drop c.args.end xs 2 0, get_or-drop c.args.end xs 3 0)

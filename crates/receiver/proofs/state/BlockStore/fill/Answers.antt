@@ -3,7 +3,7 @@ use Rattle.std.proofs.Common.{◌≡◌, ℕ, Some, None, sym, ap, ◌∙◌, ar
 use Rattle.packet.specs.Reading.{Block, block_at}
 use Rattle.receiver.proofs.Storing.{filled_more, put_same}
 use Rattle.receiver.proofs.state.BlockStore.fill.Goals as goal
-use Rattle.receiver.proofs.state.BlockStore.fill.Goals.{in-Some, in-default}
+use Rattle.receiver.proofs.state.BlockStore.fill.Goals.{in-Some, in_default}
 
 pub put-requires : goal.put-requires
 put-requires c =
@@ -21,8 +21,8 @@ loop-i-preserved c =
           filled_more p.size p.header p.octets.now p.header.records c.loop-i.i (Some b) c.loop-i.self c.match-block.self c.loop-i-test.true
           (w.in-Some.ensures ∙ at) (w.self-is ∙ w.put.ensures ∙ put_same p.size _ w.from-in-Some.result b c.loop-i.self s.1 w.from-in-Some.ensures)
           ∙ c.loop-i.invariant)
-      | in-default w ↦
+      | in_default w ↦
           (filled_more p.size p.header p.octets.now p.header.records c.loop-i.i None c.loop-i.self c.match-block.self c.loop-i-test.true
-          (w.in-default.ensures ∙ at) w.self-is
+          (w.in_default.ensures ∙ at) w.self-is
           ∙ c.loop-i.invariant)
     ]
