@@ -9,10 +9,9 @@ use fragment::carrier::Carrier;
 use hex_digits::octets_of;
 use packet::read::read_packet;
 use packet::response::read_response;
-use std::alloc::Global;
-use std::fmt;
+use std::alloc::{AllocError, Global};
 
-fn push_refusal(text: &mut String, line: usize, fault: PacketFault) -> fmt::Result
+fn push_refusal(text: &mut String, line: usize, fault: PacketFault) -> Result<(), AllocError>
     ensures { OnOk result (string_bytes text.new ≡ string_bytes text.old ++ refusal_words line fault) }
 {
     let number = fault.number();
@@ -22,7 +21,7 @@ fn push_refusal(text: &mut String, line: usize, fault: PacketFault) -> fmt::Resu
 }
 
 // Octets that begin with 2 are read as a response, all others as a packet.
-fn push_octets<C: Carrier>(text: &mut String, line: usize, octets: &[u8]) -> fmt::Result
+fn push_octets<C: Carrier>(text: &mut String, line: usize, octets: &[u8]) -> Result<(), AllocError>
     ensures { OnOk result (string_bytes text.new ≡ string_bytes text.old ++ octets_answer C.Carrier.terms line octets.now) }
 {
     if let [2, ..] = octets {
@@ -38,13 +37,10 @@ fn push_octets<C: Carrier>(text: &mut String, line: usize, octets: &[u8]) -> fmt
     }
 }
 
-fn push_line<C: Carrier>(heap: Global, text: &mut String, line: usize, digits: &[u8]) -> fmt::Result
+fn push_line<C: Carrier>(heap: Global, text: &mut String, line: usize, digits: &[u8]) -> Result<(), AllocError>
     ensures { OnOk result (string_bytes text.new ≡ string_bytes text.old ++ line_answer C.Carrier.terms line digits.now) }
 {
-    let Ok(read) = octets_of(heap, digits) else {
-        return Err(fmt::Error);
-    };
-    match read {
+    match octets_of(heap, digits)? {
         Some(octets) => push_octets::<C>(text, line, &octets),
         None => write!(text, "(unreadable {line})\n"),
     }
@@ -65,7 +61,7 @@ fn line_end(text: &[u8]) -> usize
 }
 
 // Appends the answer to each line of the input, the lines counted from 1.
-pub(crate) fn push_lines<C: Carrier>(heap: Global, text: &mut String, input: &[u8]) -> fmt::Result
+pub(crate) fn push_lines<C: Carrier>(heap: Global, text: &mut String, input: &[u8]) -> Result<(), AllocError>
     ensures { OnOk result (string_bytes text.new ≡ string_bytes text.old ++ answers_from C.Carrier.terms 1 (lines_of input.now)) }
 {
     let mut rest = input;

@@ -4,10 +4,10 @@ ghost use Rattle.inspect.specs.Words.{seen_by, good_in, bad_in, extent_word, pla
 
 use packet::packets::Packet;
 use packet::values::Header;
-use std::fmt;
+use std::alloc::AllocError;
 
 // Appends the block numbers of a packet's good records, each behind a space.
-fn push_good(text: &mut String, packet: &Packet) -> fmt::Result
+fn push_good(text: &mut String, packet: &Packet) -> Result<(), AllocError>
     ensures { OnOk result (string_bytes text.new ≡ string_bytes text.old ++ good_in (seen_by packet.now) packet.now.header.records) }
 {
     for i in 0..usize::from(packet.header.records) {
@@ -20,7 +20,7 @@ fn push_good(text: &mut String, packet: &Packet) -> fmt::Result
 }
 
 // Appends the indices of a packet's bad records, each behind a space.
-fn push_bad(text: &mut String, packet: &Packet) -> fmt::Result
+fn push_bad(text: &mut String, packet: &Packet) -> Result<(), AllocError>
     ensures { OnOk result (string_bytes text.new ≡ string_bytes text.old ++ bad_in (seen_by packet.now) packet.now.header.records) }
 {
     for i in 0..usize::from(packet.header.records) {
@@ -43,7 +43,7 @@ fn place_word(start: bool) -> &'static str
     if start { "first" } else { "later" }
 }
 
-fn push_route(text: &mut String, header: &Header) -> fmt::Result
+fn push_route(text: &mut String, header: &Header) -> Result<(), AllocError>
     ensures { OnOk result (string_bytes text.new ≡ string_bytes text.old ++ route_words header.now) }
 {
     let source = header.route.source;
@@ -52,7 +52,7 @@ fn push_route(text: &mut String, header: &Header) -> fmt::Result
     write!(text, "(packet {source} {destination} {number}")
 }
 
-fn push_shape(text: &mut String, header: &Header) -> fmt::Result
+fn push_shape(text: &mut String, header: &Header) -> Result<(), AllocError>
     ensures { OnOk result (string_bytes text.new ≡ string_bytes text.old ++ shape_words header.now) }
 {
     let extent = extent_word(header.selective);
@@ -61,7 +61,7 @@ fn push_shape(text: &mut String, header: &Header) -> fmt::Result
     write!(text, " {extent} {place} {pad}")
 }
 
-pub(crate) fn push_packet(text: &mut String, packet: &Packet) -> fmt::Result
+pub(crate) fn push_packet(text: &mut String, packet: &Packet) -> Result<(), AllocError>
     ensures { OnOk result (string_bytes text.new ≡ string_bytes text.old ++ packet_words (seen_by packet.now)) }
 {
     push_route(text, &packet.header)?;

@@ -3,10 +3,10 @@ ghost use Rattle.std.specs.Prelude.{◌≡◌, ◌++◌, string_bytes, OnOk};
 ghost use Rattle.inspect.specs.Words.{blocks_in, code_words, answer_head, response_words};
 
 use packet::values::{BlockSet, Code, Response};
-use std::fmt;
+use std::alloc::AllocError;
 
 // Appends the blocks of a set, each behind a space.
-fn push_blocks(text: &mut String, set: BlockSet) -> fmt::Result
+fn push_blocks(text: &mut String, set: BlockSet) -> Result<(), AllocError>
     ensures { OnOk result (string_bytes text.new ≡ string_bytes text.old ++ blocks_in set 16) }
 {
     for j in 0u8..16 {
@@ -17,7 +17,7 @@ fn push_blocks(text: &mut String, set: BlockSet) -> fmt::Result
     Ok(())
 }
 
-fn push_code(text: &mut String, code: Code) -> fmt::Result
+fn push_code(text: &mut String, code: Code) -> Result<(), AllocError>
     ensures { OnOk result (string_bytes text.new ≡ string_bytes text.old ++ code_words code) }
 {
     match code {
@@ -31,7 +31,7 @@ fn push_code(text: &mut String, code: Code) -> fmt::Result
     }
 }
 
-fn push_head(text: &mut String, response: Response) -> fmt::Result
+fn push_head(text: &mut String, response: Response) -> Result<(), AllocError>
     ensures { OnOk result (string_bytes text.new ≡ string_bytes text.old ++ answer_head response) }
 {
     let source = response.route.source;
@@ -40,7 +40,7 @@ fn push_head(text: &mut String, response: Response) -> fmt::Result
     write!(text, "(response {source} {destination} {number} ")
 }
 
-pub(crate) fn push_response(text: &mut String, response: Response) -> fmt::Result
+pub(crate) fn push_response(text: &mut String, response: Response) -> Result<(), AllocError>
     ensures { OnOk result (string_bytes text.new ≡ string_bytes text.old ++ response_words response) }
 {
     push_head(text, response)?;

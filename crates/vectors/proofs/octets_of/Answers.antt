@@ -9,7 +9,7 @@ pub loop-preserved : goal.loop-preserved
 loop-preserved c = (
   search rules,
   below_more _ _
-      (λ k h. c.in-ok-push.ensures.by_index.0 k 0 (omega arith) ∙ c.loop.invariant.1 k h)
-      (let added = c.in-ok-push.ensures.by_index.1 0 refl in cc),
+      (λ k h. c.in_ok-push.ensures.by_index.0 k 0 (omega arith) ∙ c.loop.invariant.1 k h)
+      (let added = c.in_ok-push.ensures.by_index.1 0 refl in cc),
   next-octet c.args.first c.args.step c.loop.counter c.loop.octet c.loop.invariant.2,
 )

@@ -11,7 +11,7 @@ loop-number-preserved g c =
     let number = g.K.Check.number in
     let message = c.args.message.now in
     let n = c.loop-number.number in
-    let cut = c.in-ok-whole.ensures in (
+    let cut = c.in_ok-whole.ensures in (
       lines_more t number c.args.order message n c.loop-number-test.true _ _ _ cut.line c.loop-number.invariant.0,
       joined-more t number c.args.order message n c.loop-number-test.true _ _ _ cut.after c.loop-number.invariant.1,
       whole-more t number c.args.order message n c.loop-number-test.true _ _ _ cut.value c.loop-number.invariant.2,
@@ -29,7 +29,7 @@ returns g c =
           lines-all t number order message n c.loop-number-test.false _ _ c.loop-number.invariant.0
           ∙ ap (λ r. vec_items c.args.text.now ++ lines_of t number order message r) c.in-Ok.ensures.value;
       value =
-          c.outcome-of.ensures
+          c.outcome_of.ensures
           ∙ ap (λ s. joined_of order.serial message c.loop-number.whole s)
           (c.deref.ensures.value ∙ joined-all t number order message n c.loop-number-test.false _ _ c.loop-number.invariant.1)
           ∙ ap (λ w. joined_of order.serial message w (joined_from t number order message c.in-Ok.count))

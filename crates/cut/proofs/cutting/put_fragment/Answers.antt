@@ -14,13 +14,13 @@ returns g c =
     let t = g.C.Carrier.terms in
     let number = g.K.Check.number in
     let n : c.in-Some.length - 0 ≡ c.in-Some.length = omega arith in
-    let there : Some (take (c.in-Some.length - 0) c.put-packet.new.packet) ≡ packet_at t number c.args.order c.args.message.now c.args.number =
-    ap (λ m. Some (take m c.put-packet.new.packet)) n ∙ c.in-Some.ensures.value in
+    let there : Some (take (c.in-Some.length - 0) c.put_packet.new.packet) ≡ packet_at t number c.args.order c.args.message.now c.args.number =
+    ap (λ m. Some (take m c.put_packet.new.packet)) n ∙ c.in-Some.ensures.value in
     record {
       line =
           made-always c.join.result
-          (c.in-ok-push.ensures.items ∙ ap (λ l. l ++ (10 ∷ [])) c.in-ok-push-hex.ensures.after
-          ∙ append_assoc (vec_items c.args.text.now) (hex_of (take (c.in-Some.length - 0) c.put-packet.new.packet)) (10 ∷ [])
+          (c.in_ok-push.ensures.items ∙ ap (λ l. l ++ (10 ∷ [])) c.in_ok-push_hex.ensures.after
+          ∙ append_assoc (vec_items c.args.text.now) (hex_of (take (c.in-Some.length - 0) c.put_packet.new.packet)) (10 ∷ [])
           ∙ ap (λ p. vec_items c.args.text.now ++ line_of p) there);
       value = subst (λ (p : Option (List ℕ)). IfOk c.join.result (λ joined. joined ≡ is_some (data_back t number p))) there c.join.ensures.value;
       after =

@@ -4,7 +4,7 @@ use Rattle.packet.specs.Reading.{block_at}
 use Rattle.packet.specs.Views.{Seen}
 use Rattle.cut.specs.Joining.{seen_by, octets_in, blocks_in}
 use Rattle.cut.proofs.joining.push_blocks.Goals as goal
-use Rattle.cut.proofs.joining.push_blocks.Goals.{in-Some+in-ok-extend-from-slice, in-default}
+use Rattle.cut.proofs.joining.push_blocks.Goals.{in-Some+in_ok-extend_from_slice, in_default}
 
 -- An image with the next record's block behind it.
 block_more : (p : Seen) (i : ℕ) (first image after : List ℕ) → image ≡ first ++ blocks_in p i
@@ -17,10 +17,10 @@ pub loop-i-preserved : goal.loop-i-preserved
 loop-i-preserved c =
     block_more (seen_by c.args.packet.now) c.loop-i.i _ _ _ c.loop-i.invariant
     (elim c.match-block.branch [
-      | in-Some+in-ok-extend-from-slice w ↦
-          ap (λ v. vec_items v) w.image-is ∙ w.in-ok-extend-from-slice.ensures.items
+      | in-Some+in_ok-extend_from_slice w ↦
+          ap (λ v. vec_items v) w.image-is ∙ w.in_ok-extend_from_slice.ensures.items
           ∙ ap (λ b. vec_items c.loop-i.image ++ octets_in b) w.in-Some.ensures
-      | in-default w ↦
+      | in_default w ↦
           ap (λ v. vec_items v) w.image-is ∙ sym (append-nil (vec_items c.loop-i.image))
-          ∙ ap (λ b. vec_items c.loop-i.image ++ octets_in b) w.in-default.ensures
+          ∙ ap (λ b. vec_items c.loop-i.image ++ octets_in b) w.in_default.ensures
     ])

@@ -9,4 +9,4 @@ returns-in-None g c =
     let before = string_bytes c.args.text.now in
     let after = string_bytes c.write.new.self in
     subst (λ (o : Option (List ℕ)). IfOk c.write.result (λ _. after ≡ before ++ digits_answer g.C.Carrier.terms c.args.line o))
-    (ap (λ o. option_map vec_items o) (sym c.in-None.is) ∙ c.in-Ok.ensures) c.write.ensures.bytes
+    (ap (λ o. option_map vec_items o) (sym c.in-None.is) ∙ c.in_ok-octets.ensures) c.write.ensures.bytes

@@ -5,7 +5,7 @@ use Rattle.packet.specs.declared.packets.Block.{Block}
 use Rattle.inspect.specs.Words.{seen_by, item, bad_item, bad_in}
 use Rattle.inspect.proofs.Growing.{item-more}
 use Rattle.inspect.proofs.packets.push_bad.Goals as goal
-use Rattle.inspect.proofs.packets.push_bad.Goals.{then-is-none+in-ok-write, else-is-none}
+use Rattle.inspect.proofs.packets.push_bad.Goals.{then-is_none+in_ok-write, else-is_none}
 
 bad : (i : ℕ) (block : Option Block) → is_some block ≡ false → item i ≡ bad_item i (block_in block)
 bad i None e = refl
@@ -21,11 +21,11 @@ loop-i-preserved c =
     let text = string_bytes c.loop-i.text in
     let block = ap (bad_item i) c.block.ensures in
     item-more (bad_in (seen_by c.args.packet.now)) i _ _ _ _ refl c.loop-i.invariant
-    (elim c.if-is-none.branch [
-      | then-is-none+in-ok-write w ↦
-          ap (λ s. string_bytes s) w.text_is ∙ w.in-ok-write.ensures.bytes
-          ∙ ap (λ l. text ++ l) (bad i c.block.result (c.is-none.ensures ∙ ap not w.if-is-none.true) ∙ block)
-      | else-is-none w ↦
-          ap (λ s. string_bytes s) w.text_is ∙ sym (append-nil text)
-          ∙ ap (λ l. text ++ l) (not-bad i c.block.result (c.is-none.ensures ∙ ap not w.if-is-none.false) ∙ block)
+    (elim c.if-is_none.branch [
+      | then-is_none+in_ok-write w ↦
+          ap (λ s. string_bytes s) w.text-is ∙ w.in_ok-write.ensures.bytes
+          ∙ ap (λ l. text ++ l) (bad i c.block.result (c.is_none.ensures ∙ ap not w.if-is_none.true) ∙ block)
+      | else-is_none w ↦
+          ap (λ s. string_bytes s) w.text-is ∙ sym (append-nil text)
+          ∙ ap (λ l. text ++ l) (not-bad i c.block.result (c.is_none.ensures ∙ ap not w.if-is_none.false) ∙ block)
     ])

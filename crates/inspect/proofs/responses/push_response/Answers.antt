@@ -9,8 +9,8 @@ returns c =
     let a = c.args.response in
     let r = c.write.result in
     let t0 = string_bytes c.args.text.now in
-    let t1 = string_bytes c.push-head.new.text in
-    let t2 = string_bytes c.push-code.new.text in
+    let t1 = string_bytes c.push_head.new.text in
+    let t2 = string_bytes c.push_code.new.text in
     let t3 = string_bytes c.write.new.self in
-    behind r t0 t1 t3 (answer_head a) (code_words a.code ++ (codes ")" ++ (10 ∷ []))) c.in-ok-push-head.ensures
-    (behind r t1 t2 t3 (code_words a.code) (codes ")" ++ (10 ∷ [])) c.in-ok-push-code.ensures c.write.ensures.bytes)
+    behind r t0 t1 t3 (answer_head a) (code_words a.code ++ (codes ")" ++ (10 ∷ []))) c.in_ok-push_head.ensures
+    (behind r t1 t2 t3 (code_words a.code) (codes ")" ++ (10 ∷ [])) c.in_ok-push_code.ensures c.write.ensures.bytes)
