@@ -1,5 +1,6 @@
 // Cuts the message on standard input into packets, prints them in hexadecimal, and joins what reading them gives.
 #![tactic(auto)]
+
 ghost use Rattle.std.specs.Prelude.{◌≡◌, ◌++◌, length, IfOk, OnOk};
 ghost use Rattle.fragment.specs.Cutting.{fragments_of};
 ghost use Rattle.cut.specs.Names.{terms_of, number_by};

@@ -1,5 +1,6 @@
 // The worked figures: how messages of some lengths are cut, the longest packets, and a selective packet's frame numbers.
 #![tactic(auto)]
+
 ghost use Rattle.std.specs.Prelude.{◌≡◌};
 ghost use Rattle.figures.specs.Shapes.{shape_of};
 ghost use Rattle.figures.specs.Figures.{FiguresStand};

@@ -1,5 +1,6 @@
 // Carriers, block counts, cutting a stream into fragments and joining it again.
 #![tactic(auto)]
+
 pub mod carrier;
 pub mod cutting;
 pub mod piece;

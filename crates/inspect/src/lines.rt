@@ -37,7 +37,12 @@ fn push_octets<C: Carrier>(text: &mut String, line: usize, octets: &[u8]) -> Res
     }
 }
 
-fn push_line<C: Carrier>(heap: Global, text: &mut String, line: usize, digits: &[u8]) -> Result<(), AllocError>
+fn push_line<C: Carrier>(
+    heap: Global,
+    text: &mut String,
+    line: usize,
+    digits: &[u8],
+) -> Result<(), AllocError>
     ensures { OnOk result (string_bytes text.new ≡ string_bytes text.old ++ line_answer C.Carrier.terms line digits.now) }
 {
     match octets_of(heap, digits)? {
@@ -61,7 +66,11 @@ fn line_end(text: &[u8]) -> usize
 }
 
 // Appends the answer to each line of the input, the lines counted from 1.
-pub(crate) fn push_lines<C: Carrier>(heap: Global, text: &mut String, input: &[u8]) -> Result<(), AllocError>
+pub(crate) fn push_lines<C: Carrier>(
+    heap: Global,
+    text: &mut String,
+    input: &[u8],
+) -> Result<(), AllocError>
     ensures { OnOk result (string_bytes text.new ≡ string_bytes text.old ++ answers_from C.Carrier.terms 1 (lines_of input.now)) }
 {
     let mut rest = input;

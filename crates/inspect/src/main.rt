@@ -1,5 +1,6 @@
 // Says in words what the packets and responses on standard input are, a line of hexadecimal digits each.
 #![tactic(auto)]
+
 ghost use Rattle.std.specs.Prelude.{◌≡◌, Some, None, codes, ◌≢◌};
 
 mod lines;

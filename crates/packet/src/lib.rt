@@ -1,5 +1,6 @@
 // Packets and responses as octets: written, read and refused.
 #![tactic(auto)]
+
 pub mod blocks;
 mod image;
 mod octets;

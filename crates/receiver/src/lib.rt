@@ -1,5 +1,6 @@
 // The receiving end: block store, phases, hand-up.
 #![tactic(auto)]
+
 mod admit;
 mod blocks;
 pub mod calls;

@@ -1,5 +1,6 @@
 // The sending end as moved types.
 #![tactic(auto)]
+
 pub mod states;
 mod steps;
 pub mod values;

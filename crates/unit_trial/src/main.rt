@@ -1,5 +1,6 @@
 // Drives senders alone by given octets: a data-call one with the sum, and a voice-along one with the polynomial.
 #![tactic(auto)]
+
 mod bench;
 
 use bench::drive;

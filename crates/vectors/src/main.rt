@@ -1,5 +1,6 @@
 // Runs the polynomial check over vectors whose numbers are known from outside, and prints a line for each.
 #![tactic(auto)]
+
 ghost use Rattle.std.specs.Prelude.{◌≡◌, ℕ, ◌+◌, ◌*◌, ◌%◌, ◌<◌, IfOk, vec_len, codes, ◌≢◌, slice_index};
 
 use check32::{Check, Polynomial, number_of};
