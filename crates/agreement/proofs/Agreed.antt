@@ -39,7 +39,7 @@ module _ (t : Terms) (number : List ℕ → ℕ) (law : Lawful t number) (o : Or
   -- The alterations that count are, in each fragment, in this block.
   abbrev OnlyAt : History → Type 0
   OnlyAt log = (x : Turn) → Has x (turns_in log)
-      → Every (λ h. (a : Alteration) → Altered t x h a → get_or x.blocks a.index 0 ≡ pos x.serial x.number) (hearings_of x.fate.heard)
+      → Every (λ h. (a : Alteration) → Altered t x h a → get_or x.blocks a.«record» 0 ≡ pos x.serial x.number) (hearings_of x.fate.heard)
 
   module _ (own peer : ℕ) (own_small : own < 65536) (peer_small : peer < 65536) where
     -- A turn of an open session.
@@ -110,8 +110,8 @@ module _ (t : Terms) (number : List ℕ → ℕ) (law : Lawful t number) (o : Or
       only r at =
           every_map _ _
           (λ h here y mark.
-          ap (λ k. get_or (carried s.blocks k) y.index 0) (sym same_blocks)
-          ∙ here y (record { marked = mark.0; there = subst (λ k. y.index < length (carried s.blocks k)) (sym same_blocks) mark.1; inside = mark.2; good = mark.3; changes = mark.4 }))
+          ap (λ k. get_or (carried s.blocks k) y.«record» 0) (sym same_blocks)
+          ∙ here y (record { marked = mark.0; there = subst (λ k. y.«record» < length (carried s.blocks k)) (sym same_blocks) mark.1; inside = mark.2; good = mark.3; changes = mark.4 }))
           hs (at (note_of t p s r) (inl refl))
 
       own-ups : (u u' : Bool) (ups : List Message) → Grew s.serial m u u' [] ups → Every (λ (y : Message). y.serial ≡ s.serial) ups

@@ -170,7 +170,7 @@ module _ (t : Terms) (number : List ℕ → ℕ) (law : Lawful t number) (route 
 
   -- The alteration lies in a block that is heard as good.
   abbrev pub Marked : Alteration → Type 0
-  Marked x = (h.alteration ≡ Some x) × (x.index < length js) × (x.place < t.block) × (comes_bad h x.index ≡ false) × (x.mask % 256 ≢ 0)
+  Marked x = (h.alteration ≡ Some x) × (x.«record» < length js) × (x.place < t.block) × (comes_bad h x.«record» ≡ false) × (x.mask % 256 ≢ 0)
 
   reads : ReadsBack t route f (image t number serial message f) blocks packet
   reads = reads-back t law.sound number route source destination serial message count n sending.fits below blocks fits
@@ -209,7 +209,7 @@ module _ (t : Terms) (number : List ℕ → ℕ) (law : Lawful t number) (route 
 
   -- The block of a good record: as it was sent, or with one octet altered.
   abbrev Changed : ℕ → List ℕ → Type 0
-  Changed j b = (x : Alteration) × Marked x × (get_or js x.index 0 ≡ j) × OneOff (sent t number serial message f j) b
+  Changed j b = (x : Alteration) × Marked x × (get_or js x.«record» 0 ≡ j) × OneOff (sent t number serial message f j) b
 
   block-heard : (i j : ℕ) → Brings t heard i j
       → (j < f.blocks) × ((block_in t.block i heard ≡ sent t number serial message f j) ⊎ Changed j (block_in t.block i heard))
@@ -227,7 +227,7 @@ module _ (t : Terms) (number : List ℕ → ℕ) (law : Lawful t number) (route 
         ],
       )
 
-  pub heard-carries : (a : ℕ) → ((x : Alteration) → Marked x → get_or js x.index 0 ≡ a) → Carries t number serial message f a (header_for route f blocks) heard
+  pub heard-carries : (a : ℕ) → ((x : Alteration) → Marked x → get_or js x.«record» 0 ≡ a) → Carries t number serial message f a (header_for route f blocks) heard
   heard-carries a only =
       record {
         read = heard-read;

@@ -76,17 +76,17 @@ module _ (size : ℕ) where
     -- An alteration that counts.
     pub record Alters (x : Alteration) : Type 0 where
       pub within : x.place < size
-      pub unspoilt : comes_bad h x.index ≡ false
+      pub unspoilt : comes_bad h x.«record» ≡ false
       pub some_bit : x.mask % 256 ≢ 0
 
     alters : (xs : List ℕ) (x : Alteration) → counts size h xs x ≡ true → Alters x
     alters xs x e =
         let a = and_parts (ltb x.place size) _ e in
         let b = and_parts (ltb (altered_place size x) (length xs)) _ a.1 in
-        let c = and_parts (not (comes_bad h x.index)) (not (eqb (x.mask % 256) 0)) b.1 in
+        let c = and_parts (not (comes_bad h x.«record»)) (not (eqb (x.mask % 256) 0)) b.1 in
         record {
           within = ltb-true x.place size a.0;
-          unspoilt = not-true (comes_bad h x.index) c.0;
+          unspoilt = not-true (comes_bad h x.«record») c.0;
           some_bit = eqb-false (x.mask % 256) 0 (not-true (eqb (x.mask % 256) 0) c.1);
         }
 
@@ -106,11 +106,11 @@ module _ (size : ℕ) where
 
     -- A block with one octet altered.
     abbrev pub AlteredIn : List ℕ → ℕ → List ℕ → Alteration → Type 0
-    AlteredIn xs i b x = (x.index ≡ i) × (b ≡ set (block_in i xs) x.place (bit_xor (get_or (block_in i xs) x.place 0) (x.mask % 256)))
+    AlteredIn xs i b x = (x.«record» ≡ i) × (b ≡ set (block_in i xs) x.place (bit_xor (get_or (block_in i xs) x.place 0) (x.mask % 256)))
 
     set-block : (xs : List ℕ) (x : Alteration) (i : ℕ) → x.place < size → (block_in i (set_by xs x) ≡ block_in i xs) ⊎ AlteredIn xs i (block_in i (set_by xs x)) x
     set-block xs x i l =
-        elim (cases_eq x.index i) [
+        elim (cases_eq x.«record» i) [
           | inl e ↦
               inr (
                 e,
@@ -121,7 +121,7 @@ module _ (size : ℕ) where
           | inr e ↦
               inl (part_same xs (set_by xs x) (record_place size i + 3) size (length-set xs (altered_place size x) _)
               (λ q m. get_or-set_other xs (altered_place size x) (record_place size i + 3 + q) _ 0
-              (λ p. e (sym (one_place i x.index (3 + q) (3 + x.place) (omega arith) (omega arith) (omega arith)).0))))
+              (λ p. e (sym (one_place i x.«record» (3 + q) (3 + x.place) (omega arith) (omega arith) (omega arith)).0))))
         ]
 
     altered-block : (xs : List ℕ) (o : Option Alteration) (i : ℕ)
@@ -146,7 +146,7 @@ module _ (size : ℕ) where
     before-block : (zs : List ℕ) (i r : ℕ) → r < 3 → get_or (altered_by size h zs h.alteration) (record_place size i + r) 0 ≡ get_or zs (record_place size i + r) 0
     before-block zs i r l =
         altered-other zs h.alteration (record_place size i + r)
-        (λ x m e. absurd (omega (arith, (one_place i x.index r (3 + x.place) (omega arith) (omega arith) (omega arith)).1)))
+        (λ x m e. absurd (omega (arith, (one_place i x.«record» r (3 + x.place) (omega arith) (omega arith) (omega arith)).1)))
 
     spoilt-block : (n : ℕ) (xs : List ℕ) (i : ℕ) → block_in i (spoilt_from size h n 0 xs) ≡ block_in i xs
     spoilt-block n xs i =

@@ -74,11 +74,11 @@ module _ (t : Terms) (number : List ℕ → ℕ) (law : Lawful t number) (own pe
 
   abbrev pub Marked : Hearing → Alteration → Type 0
   Marked h x =
-      (h.alteration ≡ Some x) × (x.index < length (carried blocks piece.blocks)) × (x.place < t.block) × (comes_bad h x.index ≡ false) × (x.mask % 256 ≢ 0)
+      (h.alteration ≡ Some x) × (x.«record» < length (carried blocks piece.blocks)) × (x.place < t.block) × (comes_bad h x.«record» ≡ false) × (x.mask % 256 ≢ 0)
 
   module _ (a : ℕ) where
     abbrev pub OnlyThere : Hearing → Type 0
-    OnlyThere h = (x : Alteration) → Marked h x → get_or (carried blocks piece.blocks) x.index 0 ≡ a
+    OnlyThere h = (x : Alteration) → Marked h x → get_or (carried blocks piece.blocks) x.«record» 0 ≡ a
 
     -- Where the receiver stands, with the code that is heard first.
     abbrev pub Stands : Bool → Option Code → State → List ℕ → Type 0

@@ -37,7 +37,7 @@ there (Ok r) report e = (r, refl, e)
 there (Err fault) report e = clash cc
 
 none-altered : (t : Terms) (x : Turn) (hs : List Hearing) → Every (λ h. h.alteration ≡ None) hs
-    → Every (λ h. (a : Alteration) → Altered t x h a → (get_or x.blocks a.index 0 ≡ 0) × (a.place ≡ 0)) hs
+    → Every (λ h. (a : Alteration) → Altered t x h a → (get_or x.blocks a.«record» 0 ≡ 0) × (a.place ≡ 0)) hs
 none-altered t x [] e = tt
 none-altered t x (h ∷ hs) e = ((λ a al. clash (let z = sym e.0 ∙ al.marked in cc)), none-altered t x hs e.1)
 

@@ -104,9 +104,9 @@ FromAir fates (x ∷ older) = (x.fate ≡ fates (length older)) × FromAir fates
 -- An alteration that counts: of a record and a place that are there, in a record that doesn't come bad, with a mask that changes the octet.
 pub record Altered (t : Terms) (x : Turn) (h : Hearing) (a : Alteration) : Type 0 where
   pub marked : h.alteration ≡ Some a
-  pub there : a.index < length x.blocks
+  pub there : a.«record» < length x.blocks
   pub inside : a.place < t.block
-  pub good : comes_bad h a.index ≡ false
+  pub good : comes_bad h a.«record» ≡ false
   pub changes : a.mask % 256 ≢ 0
 
 abbrev pub Unaltered : Terms → Turn → Hearing → Type 0
@@ -117,7 +117,7 @@ abbrev pub AtOneOctet : Terms → History → Type 0
 AtOneOctet t log =
     (s number : ℕ) → (block place : ℕ)
     × ((x : Turn) → Has x (turns_in log) → x.serial ≡ s → x.number ≡ number
-    → Every (λ h. (a : Alteration) → Altered t x h a → (slice_index x.blocks a.index ≡ block) × (a.place ≡ place)) (hearings_of x.fate.heard))
+    → Every (λ h. (a : Alteration) → Altered t x h a → (slice_index x.blocks a.«record» ≡ block) × (a.place ≡ place)) (hearings_of x.fate.heard))
 
 -- A turn goes through: heard once, no record bad, none altered, the response heard.
 pub record Through (t : Terms) (x : Turn) : Type 0 where

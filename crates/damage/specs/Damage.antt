@@ -18,12 +18,12 @@ spoilt_from size h (suc n) i xs =
 
 -- The octet of a packet where an alteration lies.
 abbrev pub altered_place : ℕ → Alteration → ℕ
-altered_place size a = record_place size a.index + 3 + a.place
+altered_place size a = record_place size a.«record» + 3 + a.place
 
 -- Whether it counts: its octet is there, in a block of a record that doesn't come bad, and the mask isn't 0.
 abbrev pub counts : ℕ → Hearing → List ℕ → Alteration → Bool
 counts size h xs a =
-    nat_lt a.place size && (nat_lt (altered_place size a) (length xs) && (not (comes_bad h a.index) && not (a.mask % 256 == 0)))
+    nat_lt a.place size && (nat_lt (altered_place size a) (length xs) && (not (comes_bad h a.«record») && not (a.mask % 256 == 0)))
 
 abbrev pub altered_by : ℕ → Hearing → List ℕ → Option Alteration → List ℕ
 altered_by size h xs None = xs

@@ -54,7 +54,7 @@ fn spoil<C: Carrier>(octets: &mut [u8], hearing: Hearing)
 fn altered_place<C: Carrier>(alteration: Alteration) -> usize
     ensures { result ≡ altered_place C.Carrier.terms.block alteration }
 {
-    record_place::<C>(alteration.index) + 3 + usize::from(alteration.place)
+    record_place::<C>(alteration.record) + 3 + usize::from(alteration.place)
 }
 
 // Whether an alteration counts.
@@ -63,7 +63,7 @@ fn counts<C: Carrier>(octets: &[u8], hearing: Hearing, alteration: Alteration) -
 {
     usize::from(alteration.place) < C::block_size()
         && altered_place::<C>(alteration) < octets.len()
-        && !comes_bad(hearing, alteration.index)
+        && !comes_bad(hearing, alteration.record)
         && alteration.mask != 0
 }
 

@@ -81,14 +81,14 @@ bad-line bad line l =
 alteration-line : (a : Option Alteration) (line : List ℕ) → alteration_fits a ≡ true → IsLine line → IsLine (alteration_before a line)
 alteration-line None line fits l = l
 alteration-line (Some a) line fits l =
-    let one = and_parts (leb a.index 15) _ fits in
+    let one = and_parts (leb a.«record» 15) _ fits in
     let two = and_parts (leb a.place 19) _ one.1 in
     let three = and_parts (leb 1 a.mask) _ two.1 in
     let f = leb-true _ 15 one.0 in
     let p = leb-true _ 19 two.0 in
     let m = leb-true _ 255 three.1 in
     plain-before (codes " (alter") _ refl
-    (item-line a.index _ (omega arith) (item-line a.place _ (omega arith) (item-line a.mask _ (omega arith) (plain-before (codes ")") line refl l))))
+    (item-line a.«record» _ (omega arith) (item-line a.place _ (omega arith) (item-line a.mask _ (omega arith) (plain-before (codes ")") line refl l))))
 
 hearing-line : (h : Hearing) (line : List ℕ) → hearing_fits h ≡ true → IsLine line → IsLine (hearing_before h line)
 hearing-line h line fits l =

@@ -83,22 +83,22 @@ bad-back bad rest h none =
 
 -- Alterations
 
-altered-back : (a : Alteration) (rest : List ℕ) → a.index ≤ 15 → a.place ≤ 19 → 1 ≤ a.mask → a.mask ≤ 255
+altered-back : (a : Alteration) (rest : List ℕ) → a.«record» ≤ 15 → a.place ≤ 19 → 1 ≤ a.mask → a.mask ≤ 255
     → alteration_of (alteration_before (Some a) rest) ≡ Some (Some a, rest)
 altered-back a rest f p low high =
     let placed = item_before a.place (item_before a.mask (codes ")" ++ rest)) in
     ap (λ o. read_on o (λ numbered. read_on (next_figure 19 numbered.1) (λ place. read_on (next_figure 255 place.1) (masked numbered.0 place.0))))
-    (figure-to-back 15 a.index placed f (omega arith) refl)
-    ∙ ap (λ o. read_on o (λ place. read_on (next_figure 255 place.1) (masked a.index place.0)))
+    (figure-to-back 15 a.«record» placed f (omega arith) refl)
+    ∙ ap (λ o. read_on o (λ place. read_on (next_figure 255 place.1) (masked a.«record» place.0)))
     (next-back 19 a.place (item_before a.mask (codes ")" ++ rest)) p (omega arith) refl)
-    ∙ ap (λ o. read_on o (masked a.index a.place)) (next-back 255 a.mask (codes ")" ++ rest) high (omega arith) refl)
+    ∙ ap (λ o. read_on o (masked a.«record» a.place)) (next-back 255 a.mask (codes ")" ++ rest) high (omega arith) refl)
     ∙ cond-false (eqb a.mask 0) None (Some (Some a, rest)) (ne_eqb a.mask 0 (λ e. omega arith))
 
 alteration-back : (a : Option Alteration) (rest : List ℕ) → alteration_fits a ≡ true → None ≡ past (codes " (alter ") rest
     → alteration_of (alteration_before a rest) ≡ Some (a, rest)
 alteration-back None rest fits none = ap (λ o. if_there o (None, rest) altered) (sym none)
 alteration-back (Some a) rest fits none =
-    let one = and_parts (leb a.index 15) _ fits in
+    let one = and_parts (leb a.«record» 15) _ fits in
     let two = and_parts (leb a.place 19) _ one.1 in
     let three = and_parts (leb 1 a.mask) _ two.1 in
     altered-back a rest (leb-true _ 15 one.0) (leb-true _ 19 two.0) (leb-true 1 _ three.0) (leb-true _ 255 three.1)

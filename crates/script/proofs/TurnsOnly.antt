@@ -149,15 +149,15 @@ bad-only text p e =
 abbrev AlterationIs : List ℕ → Option Alteration × List ℕ → Type 0
 AlterationIs text p = (text ≡ alteration_before p.0 p.1) × (alteration_fits p.0 ≡ true)
 
-alteration-fits : (a : Alteration) → a.index ≤ 15 → a.place ≤ 19 → (eqb a.mask 0 ≡ false) → a.mask ≤ 255 → alteration_fits (Some a) ≡ true
+alteration-fits : (a : Alteration) → a.«record» ≤ 15 → a.place ≤ 19 → (eqb a.mask 0 ≡ false) → a.mask ≤ 255 → alteration_fits (Some a) ≡ true
 alteration-fits a f p some high =
     let ne = eqb-false a.mask 0 some in
-    and_from _ _ (le-leb a.index 15 f) (and_from _ _ (le-leb a.place 19 p) (and_from _ _ (le-leb 1 a.mask (omega arith)) (le-leb a.mask 255 high)))
+    and_from _ _ (le-leb a.«record» 15 f) (and_from _ _ (le-leb a.place 19 p) (and_from _ _ (le-leb 1 a.mask (omega arith)) (le-leb a.mask 255 high)))
 
 mask-only : (numbered place : ℕ) (mask : ℕ × List ℕ) (p : Option Alteration × List ℕ) → numbered ≤ 15 → place ≤ 19 → mask.0 ≤ 255
     → masked numbered place mask ≡ Some p → AlterationIs (codes " (alter" ++ item_before numbered (item_before place (item_before mask.0 mask.1))) p
 mask-only numbered place mask p f g h e =
-    let a : Alteration = record { index = numbered; place = place; mask = mask.0 } in
+    let a : Alteration = record { «record» = numbered; place = place; mask = mask.0 } in
     let k = not_none (eqb mask.0 0) (closed (Some a, mask.1)) p e in
     let d = closed-only (Some a, mask.1) p k.1 in (
       ap (λ l. codes " (alter" ++ item_before numbered (item_before place (item_before mask.0 l))) d.1 ∙ ap (λ o. alteration_before o p.1) d.0,

@@ -29,7 +29,7 @@ pub record Accepted : Type 0 where
       ≡ Ok (record { head = record { carrier = Voice; check = Sum; retries = 15; serial = 4294967295 }; sends = record { line = 5; count = 60000; value = 255 } ∷ []; turns = [] })
   pub silent_turn : turn_of (text_of (codes "(turn)" ∷ [])) ≡ Some (record { wait = false; heard = Silent })
   pub full_turn : turn_of (text_of (codes "(turn (wait) (heard (bad 0 2) (alter 1 5 255) (reply)))" ∷ []))
-      ≡ Some (record { wait = true; heard = Once (record { bad = 5; alteration = Some (record { index = 1; place = 5; mask = 255 }); reply = true }) })
+      ≡ Some (record { wait = true; heard = Once (record { bad = 5; alteration = Some (record { «record» = 1; place = 5; mask = 255 }); reply = true }) })
   pub two_heard : turn_of (text_of (codes "(turn (heard) (heard (bad 15)))" ∷ []))
       ≡ Some (record { wait = false; heard = Twice (record { bad = 0; alteration = None; reply = false }) (record { bad = 32768; alteration = None; reply = false }) })
 

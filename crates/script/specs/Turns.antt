@@ -28,7 +28,7 @@ bad_of text = if_there (past (codes " (bad") text) (0, text) (λ rest. read_on (
 -- A mask alters something.
 abbrev pub masked : ℕ → ℕ → ℕ × List ℕ → Option (Option Alteration × List ℕ)
 masked numbered place mask =
-    cond (mask.0 == 0) None (closed (Some (record { index = numbered; place = place; mask = mask.0 }), mask.1))
+    cond (mask.0 == 0) None (closed (Some (record { «record» = numbered; place = place; mask = mask.0 }), mask.1))
 
 abbrev pub altered : List ℕ → Option (Option Alteration × List ℕ)
 altered text =

@@ -47,7 +47,7 @@ bad_before bad text = cond (bad == 0) text (codes " (bad" ++ records_before 16 0
 abbrev pub alteration_before : Option Alteration → List ℕ → List ℕ
 alteration_before None text = text
 alteration_before (Some a) text =
-    codes " (alter" ++ item_before a.index (item_before a.place (item_before a.mask (codes ")" ++ text)))
+    codes " (alter" ++ item_before a.«record» (item_before a.place (item_before a.mask (codes ")" ++ text)))
 
 abbrev pub hearing_before : Hearing → List ℕ → List ℕ
 hearing_before h text =
@@ -66,7 +66,7 @@ turn_line f = codes "(turn" ++ word_before f.wait (codes " (wait)") (hearings_be
 
 abbrev pub alteration_fits : Option Alteration → Bool
 alteration_fits None = true
-alteration_fits (Some a) = nat_le a.index 15 && (nat_le a.place 19 && (nat_le 1 a.mask && nat_le a.mask 255))
+alteration_fits (Some a) = nat_le a.«record» 15 && (nat_le a.place 19 && (nat_le 1 a.mask && nat_le a.mask 255))
 
 abbrev pub hearing_fits : Hearing → Bool
 hearing_fits h = nat_lt h.bad 65536 && alteration_fits h.alteration

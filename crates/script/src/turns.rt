@@ -56,7 +56,7 @@ fn read_altered(text: &[u8]) -> Option<(Option<Alteration>, &[u8])>
     let rest = read_word(rest, b")")?;
     Some((
         Some(Alteration {
-            index: record,
+            record,
             place,
             mask,
         }),

@@ -6,8 +6,8 @@ use Rattle.damage.proofs.marks.record_place.Goals as goal
 pub returns : goal.returns
 returns g c =
     let few = g.met.C.Carrier.sound.few_octets in
-    let m = mul-le c.from.result (c.block-size.result + 3) 255 23 (omega arith) (omega (arith, few, c.block-size.ensures)) in
+    let m = mul-le c.from.result (c.block_size.result + 3) 255 23 (omega arith) (omega (arith, few, c.block_size.ensures)) in
     record {
-      value = rw (c.from.ensures, c.block-size.ensures);
+      value = rw (c.from.ensures, c.block_size.ensures);
       bound = omega arith;
     }
