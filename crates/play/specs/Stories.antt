@@ -15,8 +15,8 @@ use Rattle.air.specs.Fates.{scheduled}
 use Rattle.agreement.specs.Turns.{Pair, Turned, turn_of}
 use Rattle.agreement.specs.Histories.{Message, Event, refused, started, turned, History, World, between, within, note_of, with_base}
 use Rattle.exchange.specs.Views.{FreshPair, fresh_pair_of}
-use Rattle.tell.specs.declared.fault.DrillFault.TheVariants.{End}
-use Rattle.tell.specs.declared.fault.Refused.{Refused}
+use Rattle.tell.specs.declared.faults.DrillFault.TheVariants.{End}
+use Rattle.tell.specs.declared.faults.Refused.{Refused}
 use Rattle.script.specs.declared.values.CarrierWord.{CarrierWord}
 use Rattle.script.specs.declared.values.CarrierWord.TheVariants.{Data, Voice}
 use Rattle.script.specs.declared.values.CheckWord.{CheckWord}

@@ -14,7 +14,7 @@ use fault::EndFault;
 use fragment::carrier::Carrier;
 use sender::values::Report;
 use std::alloc::AllocError;
-use tell::fault::{DrillFault, Refused};
+use tell::faults::{DrillFault, Refused};
 use tell::print::{push_refused, push_report, push_up};
 
 // What one hearing handed up, if anything.

@@ -3,7 +3,7 @@ use Rattle.std.proofs.Common.{◌≡◌, ℕ, ◌+◌, List, [], ◌∷◌, ◌+
 use Rattle.std.specs.Option.{ok_or}
 use Rattle.air.specs.declared.fate.Fate.{Fate}
 use Rattle.packet.specs.Reading.{and_then}
-use Rattle.tell.specs.declared.fault.Refused.{Refused}
+use Rattle.tell.specs.declared.faults.Refused.{Refused}
 use Rattle.script.specs.declared.forms.Form.{Form}
 use Rattle.script.specs.declared.values.Head.{Head}
 use Rattle.script.specs.declared.values.Message.{Message}

@@ -3,7 +3,7 @@ use Rattle.std.proofs.Common.{◌≡◌, ℕ, suc, ◌+◌, ◌-◌, ◌<◌, �
 use Rattle.std.proofs.lemmas.List.{at_drop_more, at_drop_all, length-drop, drop-drop}
 use Rattle.std.proofs.lemmas.Bool.{cond-true, cond-false, cond_both, eq-eqb, ne_eqb, le-leb}
 use Rattle.packet.specs.Reading.{and_then}
-use Rattle.tell.specs.declared.fault.Refused.{Refused}
+use Rattle.tell.specs.declared.faults.Refused.{Refused}
 use Rattle.script.specs.declared.values.Head.{Head}
 use Rattle.tell.specs.Faults.{wrong}
 use Rattle.script.specs.Scripts.{head_of, body_of, plan_in, script_of}

@@ -9,9 +9,9 @@ use Rattle.air.specs.declared.fate.Hearings.{Hearings}
 use Rattle.air.specs.declared.fate.Hearings.TheVariants.{Silent, Once, Twice, Thrice}
 use Rattle.fault.specs.declared.EndFault.TheVariants.{Retries}
 use Rattle.packet.specs.Reading.{and_then}
-use Rattle.tell.specs.declared.fault.DrillFault.{DrillFault}
-use Rattle.tell.specs.declared.fault.DrillFault.TheVariants.{End}
-use Rattle.tell.specs.declared.fault.Refused.{Refused}
+use Rattle.tell.specs.declared.faults.DrillFault.{DrillFault}
+use Rattle.tell.specs.declared.faults.DrillFault.TheVariants.{End}
+use Rattle.tell.specs.declared.faults.Refused.{Refused}
 use Rattle.script.specs.declared.forms.Form.{Form}
 use Rattle.script.specs.declared.forms.Form.TheVariants as form
 use Rattle.script.specs.declared.values.CarrierWord.{CarrierWord}

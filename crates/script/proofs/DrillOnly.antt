@@ -6,8 +6,8 @@ use Rattle.std.specs.Option.{ok_or as std_ok_or, option_map, option_or}
 use Rattle.air.specs.declared.fate.Fate.{Fate}
 use Rattle.fault.specs.declared.EndFault.TheVariants.{Retries}
 use Rattle.packet.specs.Reading.{and_then}
-use Rattle.tell.specs.declared.fault.DrillFault.{DrillFault}
-use Rattle.tell.specs.declared.fault.DrillFault.TheVariants.{End}
+use Rattle.tell.specs.declared.faults.DrillFault.{DrillFault}
+use Rattle.tell.specs.declared.faults.DrillFault.TheVariants.{End}
 use Rattle.script.specs.declared.forms.Form.{Form}
 use Rattle.script.specs.declared.forms.Form.TheVariants as form
 use Rattle.script.specs.declared.values.CarrierWord.{CarrierWord}

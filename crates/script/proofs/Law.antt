@@ -1,6 +1,6 @@
 -- Just what can be written is read.
 use Rattle.std.proofs.Common.{◌≡◌, ℕ, List, Result, sym, subst}
-use Rattle.tell.specs.declared.fault.Refused.{Refused}
+use Rattle.tell.specs.declared.faults.Refused.{Refused}
 use Rattle.script.specs.Scripts.{Plan, script_of}
 use Rattle.script.specs.Written.{ReadsBack}
 use Rattle.script.proofs.DrillBack.{written_back, retries-refused}

@@ -2,7 +2,7 @@
 use Rattle.std.specs.Prelude.{◌≡◌, ℕ, true, false, List, [], ◌∷◌, ◌++◌, Some, None, Ok, Err, codes}
 use Rattle.air.specs.declared.fate.Hearings.TheVariants.{Silent, Once, Twice}
 use Rattle.fault.specs.declared.EndFault.TheVariants.{Retries}
-use Rattle.tell.specs.declared.fault.DrillFault.TheVariants.{End}
+use Rattle.tell.specs.declared.faults.DrillFault.TheVariants.{End}
 use Rattle.script.specs.declared.values.CarrierWord.TheVariants.{Data, Voice}
 use Rattle.script.specs.declared.values.CheckWord.TheVariants.{Polynomial, Sum}
 use Rattle.tell.specs.Faults.{wrong}

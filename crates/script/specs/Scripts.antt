@@ -5,9 +5,9 @@ use Rattle.std.specs.Str.{bytes_eq}
 use Rattle.air.specs.declared.fate.Fate.{Fate}
 use Rattle.fault.specs.declared.EndFault.TheVariants.{Retries}
 use Rattle.packet.specs.Reading.{and_then}
-use Rattle.tell.specs.declared.fault.DrillFault.{DrillFault}
-use Rattle.tell.specs.declared.fault.DrillFault.TheVariants.{End, Line}
-use Rattle.tell.specs.declared.fault.Refused.{Refused}
+use Rattle.tell.specs.declared.faults.DrillFault.{DrillFault}
+use Rattle.tell.specs.declared.faults.DrillFault.TheVariants.{End, Line}
+use Rattle.tell.specs.declared.faults.Refused.{Refused}
 use Rattle.script.specs.declared.forms.Form.{Form}
 use Rattle.script.specs.declared.forms.Form.TheVariants as form
 use Rattle.script.specs.declared.values.CarrierWord.{CarrierWord}

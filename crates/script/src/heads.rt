@@ -6,7 +6,7 @@ ghost use Rattle.script.specs.Scripts.{carrier_of, check_of, lone_figure, retrie
 use crate::values::{CarrierWord, CheckWord, Head};
 use crate::words::{is_end, is_word, read_figure, read_word};
 use fault::EndFault;
-use tell::fault::{DrillFault, Refused};
+use tell::faults::{DrillFault, Refused};
 
 fn read_carrier(line: &[u8]) -> Option<CarrierWord>
     ensures { result ≡ carrier_of line.now }

@@ -10,7 +10,7 @@ use crate::heads::{read_head, wrong_line};
 use crate::lines::split_line;
 use crate::values::{Head, Script};
 use std::alloc::{AllocError, Global};
-use tell::fault::Refused;
+use tell::faults::Refused;
 
 // The octets of the longest text.
 const LONGEST: usize = 65_536;

@@ -1,20 +1,20 @@
 -- The number, layer and octet place of each fault of a drill's text.
 use Rattle.std.specs.Prelude.{ℕ}
 use Rattle.fault.specs.Faults.{end_number, end_layer, end_place}
-use Rattle.fault.specs.declared.Layer.{Layer}
-use Rattle.fault.specs.declared.Layer.TheVariants as layer
-use Rattle.tell.specs.declared.fault.DrillFault.{DrillFault}
-use Rattle.tell.specs.declared.fault.DrillFault.TheVariants.{End, Line}
-use Rattle.tell.specs.declared.fault.Refused.{Refused}
+use Rattle.tell.specs.declared.faults.DrillLayer.{DrillLayer}
+use Rattle.tell.specs.declared.faults.DrillLayer.TheVariants.{Below, Drill}
+use Rattle.tell.specs.declared.faults.DrillFault.{DrillFault}
+use Rattle.tell.specs.declared.faults.DrillFault.TheVariants.{End, Line}
+use Rattle.tell.specs.declared.faults.Refused.{Refused}
 
 abbrev pub drill_number : DrillFault → ℕ
 drill_number (End inner) = end_number inner
 drill_number Line = 9
 
 -- A fault of an end keeps its layer and its place.
-abbrev pub drill_layer : DrillFault → Layer
-drill_layer (End inner) = end_layer inner
-drill_layer Line = layer.Drill
+abbrev pub drill_layer : DrillFault → DrillLayer
+drill_layer (End inner) = Below (end_layer inner)
+drill_layer Line = Drill
 
 abbrev pub drill_place : DrillFault → ℕ
 drill_place (End inner) = end_place inner

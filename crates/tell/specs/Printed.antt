@@ -3,7 +3,7 @@ use Rattle.std.specs.Prelude.{ℕ, List, [], ◌∷◌, ◌++◌, codes, decimal
 use Rattle.sender.specs.declared.values.Outcome.{Outcome}
 use Rattle.sender.specs.declared.values.Outcome.TheVariants.{Delivered, NotDelivered, Unknown}
 use Rattle.sender.specs.declared.values.Report.{Report}
-use Rattle.tell.specs.declared.fault.Refused.{Refused}
+use Rattle.tell.specs.declared.faults.Refused.{Refused}
 use Rattle.tell.specs.Faults.{drill_number}
 
 -- A number behind a space.

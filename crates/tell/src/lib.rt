@@ -1,4 +1,5 @@
 // What a drill tells, line by line: its faults, and the lines that answer it.
 #![tactic(auto)]
-pub mod fault;
+
+pub mod faults;
 pub mod print;

@@ -2,7 +2,7 @@
 ghost use Rattle.std.specs.Prelude.{◌≡◌, ◌++◌, MatchResult};
 ghost use Rattle.tell.specs.Printed.{up_line, outcome_word, report_line, refused_line};
 
-use crate::fault::Refused;
+use crate::faults::Refused;
 use sender::values::{Outcome, Report};
 use std::alloc::AllocError;
 
@@ -10,7 +10,8 @@ use std::alloc::AllocError;
 pub fn push_up(text: &mut Vec<u8>, serial: u32, count: usize) -> Result<(), AllocError>
     ensures after { MatchResult result (λ _. text.new.items ≡ text.old.items ++ up_line serial count) (λ _. text.new.items ≡ text.old.items) }
 {
-    let line = format!(in text.allocator(); "(up {serial} {count})\n")?;
+    let heap = *text.allocator();
+    let line = format!(in heap; "(up {serial} {count})\n")?;
     text.extend_from_slice(line.as_bytes())
 }
 
@@ -31,7 +32,8 @@ pub fn push_report(text: &mut Vec<u8>, report: Report) -> Result<(), AllocError>
     let serial = report.serial;
     let outcome = outcome_word(report.outcome);
     let packets = report.packets;
-    let line = format!(in text.allocator(); "(report {serial} {outcome} {packets})\n")?;
+    let heap = *text.allocator();
+    let line = format!(in heap; "(report {serial} {outcome} {packets})\n")?;
     text.extend_from_slice(line.as_bytes())
 }
 
@@ -41,6 +43,7 @@ pub fn push_refused(text: &mut Vec<u8>, refused: Refused) -> Result<(), AllocErr
 {
     let line = refused.line;
     let number = refused.fault.number();
-    let line = format!(in text.allocator(); "(refused {line} {number})\n")?;
+    let heap = *text.allocator();
+    let line = format!(in heap; "(refused {line} {number})\n")?;
     text.extend_from_slice(line.as_bytes())
 }

@@ -16,8 +16,8 @@ returns-in-Twice g c =
     let panel = c.args.panel.now in
     let none : Reception = begun r.state c.args.store.now None in
     let first : Reception = heard_once t number r.route packet none c.in-Twice.a in
-    let one = c.hear-once-one-in-Twice in
-    let two = c.hear-once-two in
+    let one = c.hear_once-one-in-Twice in
+    let two = c.hear_once-two in
     record {
       value =
           ap (λ (us : List Up). seen two.new.receiver.state two.new.store us two.result.response two.new.panel) c.pack-in-Twice.ensures.value
@@ -40,9 +40,9 @@ returns-in-Thrice g c =
     let none : Reception = begun r.state c.args.store.now None in
     let first : Reception = heard_once t number r.route packet none c.in-Thrice.a in
     let second : Reception = heard_once t number r.route packet first c.in-Thrice.b in
-    let one = c.hear-once-one-in-Thrice in
-    let two = c.hear-once-two-in-Thrice in
-    let three = c.hear-once-three in
+    let one = c.hear_once-one-in-Thrice in
+    let two = c.hear_once-two-in-Thrice in
+    let three = c.hear_once-three in
     record {
       value =
           ap (λ (us : List Up). seen three.new.receiver.state three.new.store us three.result.response three.new.panel) c.pack-in-Thrice.ensures.value

@@ -11,6 +11,6 @@ returns g c =
     let call : List ℕ → Called = λ xs. call_of g.C.Carrier.terms g.K.Check.number r.route r.state c.args.store.now xs c.args.response.now in
     let change : List ℕ → List ℕ = damaged g.C.Carrier.terms.block c.args.hearing in
     record {
-      value = through call change _ _ _ c.args.packet.now c.packet.ensures.value c.damage.ensures c.copy-from-slice.ensures.after;
+      value = through call change _ _ _ c.args.packet.now c.packet.ensures.value c.damage.ensures c.copy_from_slice.ensures.after;
       route = c.packet.ensures.route;
     }

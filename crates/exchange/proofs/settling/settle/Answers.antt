@@ -18,8 +18,8 @@ returns-in-Err g c =
     let back = c.in-Err.ensures.back in
     record {
       value =
-          c.wait-over-in-Err.ensures.value
+          c.wait_over-in-Err.ensures.value
           ∙ step_back back
           ∙ refused-unheard t y.base y.session c.in-Some.octets c.args.response _ c.in-Some.is c.in-Err.ensures.value;
-      kept = c.wait-over-in-Err.ensures.kept ∙ base_back back;
+      kept = c.wait_over-in-Err.ensures.kept ∙ base_back back;
     }

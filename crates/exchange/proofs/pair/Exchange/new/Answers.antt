@@ -7,7 +7,7 @@ use Rattle.exchange.proofs.pair.Exchange.new.Goals as goal
 
 pub returns-in-Ok : goal.returns-in-Ok
 returns-in-Ok g c =
-    let y : Exchange g.row.C.Denot g.row.K.Denot = record { sender = c.in-Ok.sender; receiver = c.in-ok-receiver.receiver } in
+    let y : Exchange g.row.C.Denot g.row.K.Denot = record { sender = c.in-Ok.sender; receiver = c.in_ok-receiver.receiver } in
     let value : fresh_pair_in (Ok y) ≡ fresh_pair_of c.args.own c.args.peer c.args.retries c.args.first c.args.store.now = search rules in
     let own_small : c.args.own < 65536 = search rules in
     let peer_small : c.args.peer < 65536 = search rules in

@@ -17,7 +17,7 @@ returns-in-Ok g c =
       kept = refl;
       back = tt;
       agrees = start-agrees g.C.Carrier.terms g.K.Check.number (lawful g.C.Carrier.terms g.K.Check.number g.met.C.Carrier.sound g.met.K.Check.small g.met.K.Check.single)
-          c.args.self c.args.message.now (octets-lent c.args.message.now (λ i. let h = c.type-inv.message i in omega arith)) (Ok y) value refl tt;
+          c.args.self c.args.message.now (octets-lent c.args.message.now (λ i. let h = c.type_inv.message i in omega arith)) (Ok y) value refl tt;
     }
 
 pub returns-in-Err : goal.returns-in-Err
@@ -30,5 +30,5 @@ returns-in-Err g c =
       kept = tt;
       back = back;
       agrees = start-agrees g.C.Carrier.terms g.K.Check.number (lawful g.C.Carrier.terms g.K.Check.number g.met.C.Carrier.sound g.met.K.Check.small g.met.K.Check.single)
-          c.args.self c.args.message.now (octets-lent c.args.message.now (λ i. let h = c.type-inv.message i in omega arith)) (Err y) value tt back;
+          c.args.self c.args.message.now (octets-lent c.args.message.now (λ i. let h = c.type_inv.message i in omega arith)) (Err y) value tt back;
     }

@@ -5,7 +5,7 @@ use Rattle.exchange.proofs.pair.Transfer.turn.Goals as goal
 
 pub returns : goal.returns
 returns g c =
-    let t = c.take-turn in
+    let t = c.take_turn in
     let fates = g.F.Air.fates in
     record {
       value = t.ensures.value;

@@ -1,9 +1,16 @@
 // Why the text of a drill is refused, and at which line.
 ghost use Rattle.std.specs.Prelude.{◌≡◌};
 ghost use Rattle.tell.specs.Faults.{drill_number, drill_layer, drill_place};
-ghost use Rattle.tell.specs.declared.fault.DrillFault.TheVariants.{End};
+ghost use Rattle.tell.specs.declared.faults.DrillFault.TheVariants.{End};
 
 use fault::{EndFault, Layer};
+
+// The layer that refuses: one below the drill's text, or the text itself.
+#[derive(Clone, Copy)]
+pub enum DrillLayer {
+    Below(Layer),
+    Drill,
+}
 
 #[derive(Clone, Copy)]
 pub enum DrillFault {
@@ -30,12 +37,12 @@ impl DrillFault {
         }
     }
 
-    pub fn layer(&self) -> Layer
+    pub fn layer(&self) -> DrillLayer
         ensures { result ≡ drill_layer self.now }
     {
         match self {
-            DrillFault::End(inner) => inner.layer(),
-            DrillFault::Line => Layer::Drill,
+            DrillFault::End(inner) => DrillLayer::Below(inner.layer()),
+            DrillFault::Line => DrillLayer::Drill,
         }
     }
 
