@@ -13,39 +13,39 @@ loop-rest-smaller c =
     let rest = c.loop-rest.rest.now in
     let some : 0 < length rest = omega (arith, eqb-false (length rest) 0 (sym c.loop-rest-test.ensures)) in
     let shorter = after-shorter rest some in
-    omega (arith, ap length c.split-line.ensures.back)
+    omega (arith, ap length c.split_line.ensures.back)
 
 pub loop-rest-preserved : goal.loop-rest-preserved
 loop-rest-preserved c =
     let rest = c.loop-rest.rest.now in
-    let line = c.split-line.result.0.now in
-    let more = c.split-line.result.1.now in
+    let line = c.split_line.result.0.now in
+    let more = c.split_line.result.1.now in
     let number = c.loop-rest.number in
     let head = c.args.head in
     let sends = vec_items c.loop-rest.sends in
     let turns = vec_items c.loop-rest.turns in
-    let kept = c.in-ok-keep.ensures in
+    let kept = c.in_ok-keep.ensures in
     let some : 0 < length rest = omega (arith, eqb-false (length rest) 0 (sym c.loop-rest-test.ensures)) in
     let shorter = after-shorter rest some in
-    let lines = cut-lines rest line more some c.split-line.ensures.front c.split-line.ensures.back in (
+    let lines = cut-lines rest line more some c.split_line.ensures.front c.split_line.ensures.back in (
       form-more head number sends (vec_items c.keep.new.sends) turns (vec_items c.keep.new.turns) c.in-Some.form line (lines_of more)
           c.in-Some.ensures kept.sends kept.turns
           ∙ ap (λ l. behind head sends turns (forms_from number l)) lines ∙ c.loop-rest.invariant.0,
-      omega (arith, ap length c.split-line.ensures.back, c.loop-rest.invariant.1),
+      omega (arith, ap length c.split_line.ensures.back, c.loop-rest.invariant.1),
     )
 
-pub returns-in-default : goal.returns-in-default
-returns-in-default c =
+pub returns-in_default : goal.returns-in_default
+returns-in_default c =
     let rest = c.loop-rest.rest.now in
-    let line = c.split-line.result.0.now in
-    let more = c.split-line.result.1.now in
+    let line = c.split_line.result.0.now in
+    let more = c.split_line.result.1.now in
     let number = c.loop-rest.number in
     let head = c.args.head in
     let sends = vec_items c.loop-rest.sends in
     let turns = vec_items c.loop-rest.turns in
     let some : 0 < length rest = omega (arith, eqb-false (length rest) 0 (sym c.loop-rest-test.ensures)) in
-    let lines = cut-lines rest line more some c.split-line.ensures.front c.split-line.ensures.back in
-    ap (λ e. Err e) c.wrong-line.ensures ∙ form-wrong head number sends turns line (lines_of more) c.in-default.ensures
+    let lines = cut-lines rest line more some c.split_line.ensures.front c.split_line.ensures.back in
+    ap (λ e. Err e) c.wrong_line.ensures ∙ form-wrong head number sends turns line (lines_of more) c.in_default.ensures
     ∙ ap (λ l. behind head sends turns (forms_from number l)) lines ∙ c.loop-rest.invariant.0 ∙ from-none head _
 
 pub returns : goal.returns

@@ -7,54 +7,54 @@ use Rattle.script.proofs.Came.{figure-most}
 use Rattle.script.proofs.Records.{record-room, record-more, record-low, record-none, records-end, records-all}
 use Rattle.script.proofs.turns.read_records.Goals as goal
 
-pub overflow-shl-bad : goal.overflow-shl-bad
-overflow-shl-bad c = omega (arith, figure-most 15 c.in-Some.more.now c.in-ok-record.record c.in-ok-record.more.now c.in-ok-record.ensures)
+pub overflow_shl-bad : goal.overflow_shl-bad
+overflow_shl-bad c = omega (arith, figure-most 15 c.in-Some.more.now c.in_ok-record.record c.in_ok-record.more.now c.in_ok-record.ensures)
 
-pub overflow-add-least : goal.overflow-add-least
-overflow-add-least c = omega (arith, figure-most 15 c.in-Some.more.now c.in-ok-record.record c.in-ok-record.more.now c.in-ok-record.ensures)
+pub overflow_add-least : goal.overflow_add-least
+overflow_add-least c = omega (arith, figure-most 15 c.in-Some.more.now c.in_ok-record.record c.in_ok-record.more.now c.in_ok-record.ensures)
 
-pub overflow-add-bad : goal.overflow-add-bad
-overflow-add-bad c =
-    let few = figure-most 15 c.in-Some.more.now c.in-ok-record.record c.in-ok-record.more.now c.in-ok-record.ensures in
-    let room = record-room c.loop.least c.loop.bad c.in-ok-record.record c.loop.invariant.1 c.if-record-least.false few in
-    let bit = one_shl c.in-ok-record.record 16 (omega (arith, few)) in
+pub overflow_add-bad : goal.overflow_add-bad
+overflow_add-bad c =
+    let few = figure-most 15 c.in-Some.more.now c.in_ok-record.record c.in_ok-record.more.now c.in_ok-record.ensures in
+    let room = record-room c.loop.least c.loop.bad c.in_ok-record.record c.loop.invariant.1 c.if-record-least.false few in
+    let bit = one_shl c.in_ok-record.record 16 (omega (arith, few)) in
     omega arith
 
 pub loop-preserved : goal.loop-preserved
 loop-preserved c =
     let least = c.loop.least in
     let bad = c.loop.bad in
-    let numbered = c.in-ok-record.record in
-    let rest = c.in-ok-record.more.now in
-    let few = figure-most 15 c.in-Some.more.now numbered rest c.in-ok-record.ensures in
+    let numbered = c.in_ok-record.record in
+    let rest = c.in_ok-record.more.now in
+    let few = figure-most 15 c.in-Some.more.now numbered rest c.in_ok-record.ensures in
     let room = record-room least bad numbered c.loop.invariant.1 c.if-record-least.false few in
     let bit : (1 * 2 ^ numbered) % 65536 ≡ 2 ^ numbered = one_shl numbered 16 (omega (arith, few)) in
     let left : suc (16 - (c.loop.counter + 1)) ≡ 16 - c.loop.counter = omega arith in (
       ap (λ n. records_from (16 - (c.loop.counter + 1)) (numbered + 1) (bad + n) rest) bit
-          ∙ record-more _ least bad numbered c.loop.rest.now c.in-Some.more.now rest c.in-Some.ensures c.in-ok-record.ensures c.if-record-least.false
+          ∙ record-more _ least bad numbered c.loop.rest.now c.in-Some.more.now rest c.in-Some.ensures c.in_ok-record.ensures c.if-record-least.false
           ∙ ap (λ n. records_from n least bad c.loop.rest.now) left ∙ c.loop.invariant.0,
       omega arith,
       omega (arith, few),
     )
 
-pub returns-in-default : goal.returns-in-default
-returns-in-default c =
+pub returns-in_default : goal.returns-in_default
+returns-in_default c =
     let left : suc (16 - (c.loop.counter + 1)) ≡ 16 - c.loop.counter = omega arith in
-    records-end _ c.loop.least c.loop.bad c.loop.rest.now c.in-default.ensures
+    records-end _ c.loop.least c.loop.bad c.loop.rest.now c.in_default.ensures
     ∙ ap (λ n. records_from n c.loop.least c.loop.bad c.loop.rest.now) left ∙ c.loop.invariant.0
 
-pub returns-in-err-record : goal.returns-in-err-record
-returns-in-err-record c =
+pub returns-in_err-record : goal.returns-in_err-record
+returns-in_err-record c =
     let left : suc (16 - (c.loop.counter + 1)) ≡ 16 - c.loop.counter = omega arith in
-    ap (λ r. seen r) c.from-residual.ensures
-    ∙ record-none _ c.loop.least c.loop.bad c.loop.rest.now c.in-Some.more.now c.in-Some.ensures c.in-err-record.ensures
+    ap (λ r. seen r) c.from_residual.ensures
+    ∙ record-none _ c.loop.least c.loop.bad c.loop.rest.now c.in-Some.more.now c.in-Some.ensures c.in_err-record.ensures
     ∙ ap (λ n. records_from n c.loop.least c.loop.bad c.loop.rest.now) left ∙ c.loop.invariant.0
 
 pub returns-then-record-least : goal.returns-then-record-least
 returns-then-record-least c =
     let left : suc (16 - (c.loop.counter + 1)) ≡ 16 - c.loop.counter = omega arith in
-    record-low _ c.loop.least c.loop.bad c.in-ok-record.record c.loop.rest.now c.in-Some.more.now c.in-ok-record.more.now
-    c.in-Some.ensures c.in-ok-record.ensures c.if-record-least.true
+    record-low _ c.loop.least c.loop.bad c.in_ok-record.record c.loop.rest.now c.in-Some.more.now c.in_ok-record.more.now
+    c.in-Some.ensures c.in_ok-record.ensures c.if-record-least.true
     ∙ ap (λ n. records_from n c.loop.least c.loop.bad c.loop.rest.now) left ∙ c.loop.invariant.0
 
 pub returns : goal.returns

@@ -4,7 +4,7 @@ use Rattle.std.proofs.lemmas.List.{take_rest}
 use Rattle.script.specs.Words.{figure_from}
 use Rattle.script.proofs.Reading.{digit-more, digits-all}
 use Rattle.script.proofs.words.read_digits.Goals as goal
-use Rattle.script.proofs.words.read_digits.Goals.{in-default, in-default·2, in-default·3}
+use Rattle.script.proofs.words.read_digits.Goals.{in_default, in_default-2, in_default-3}
 
 pub loop-rest-preserved : goal.loop-rest-preserved
 loop-rest-preserved c =
@@ -21,7 +21,7 @@ returns c =
     let rest = c.loop-rest.rest.now in
     let value = c.loop-rest.value in
     sym (elim c.if-rest-lt1.branch [
-      | in-default w ↦ digits-all value rest (λ some low high. omega (arith, ltb-true, ltb-false))
-      | in-default·2 w ↦ digits-all value rest (λ some low high. omega (arith, ltb-true, ltb-false))
-      | in-default·3 w ↦ digits-all value rest (λ some low high. omega (arith, ltb-true, ltb-false))
+      | in_default w ↦ digits-all value rest (λ some low high. omega (arith, ltb-true, ltb-false))
+      | in_default-2 w ↦ digits-all value rest (λ some low high. omega (arith, ltb-true, ltb-false))
+      | in_default-3 w ↦ digits-all value rest (λ some low high. omega (arith, ltb-true, ltb-false))
     ]) ∙ c.loop-rest.invariant.0

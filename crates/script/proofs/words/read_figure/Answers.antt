@@ -8,8 +8,8 @@ pub returns-in-48 : goal.returns-in-48
 returns-in-48 c = zero-figure c.args.text.now (omega arith)
 
 pub returns-in-49-to-57 : goal.returns-in-49-to-57
-returns-in-49-to-57 c = c.read-digits.ensures ∙ first-figure c.args.text.now (omega arith) (omega arith)
+returns-in-49-to-57 c = c.read_digits.ensures ∙ first-figure c.args.text.now (omega arith) (omega arith)
 
-pub returns-in-default : goal.returns-in-default
+pub returns-in_default : goal.returns-in_default
 unfolding figure_of
-returns-in-default c = search rules
+returns-in_default c = search rules

@@ -6,5 +6,5 @@ use Rattle.std.proofs.lemmas.Bool.Decides.{Decides-eqb}
 
 pub returns : goal.returns
 returns c =
-    past_is c.strip-prefix.result c.args.word.now c.args.text.now
-    (strip_prefix_is Decides-eqb c.args.text.now c.args.word.now c.strip-prefix.result c.strip-prefix.ensures.cases)
+    past_is c.strip_prefix.result c.args.word.now c.args.text.now
+    (strip_prefix_is Decides-eqb c.args.text.now c.args.word.now c.strip_prefix.result c.strip_prefix.ensures.cases)
