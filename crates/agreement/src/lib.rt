@@ -1,5 +1,6 @@
 // The agreement of both ends over whole histories, as a theorem.
 #![tactic(auto)]
+
 ghost use Rattle.agreement.specs.Agreement.{HistoriesAgree};
 ghost use Rattle.agreement.specs.Instances.{Speaks};
 

@@ -1,3 +1,4 @@
 // What one hearing makes of the octets of a packet.
 #![tactic(auto)]
+
 pub mod marks;

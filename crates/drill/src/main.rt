@@ -1,5 +1,6 @@
 // Plays the drill on standard input, and prints what it tells.
 #![tactic(auto)]
+
 use play::answer;
 use std::io::Read;
 

@@ -1,5 +1,6 @@
 // Plays the drills in the files that its arguments name, and prints what each tells behind its name.
 #![tactic(auto)]
+
 use play::answer;
 use std::alloc::AllocError;
 use std::{env, fs};
@@ -7,7 +8,8 @@ use std::{env, fs};
 // Appends the line that names a drill, without the ending of its file.
 fn push_name(text: &mut Vec<u8>, file: &str) -> Result<(), AllocError> {
     let name = file.strip_suffix(".drill").unwrap_or(file);
-    let line = format!(in text.allocator(); "== {name}\n")?;
+    let heap = *text.allocator();
+    let line = format!(in heap; "== {name}\n")?;
     text.extend_from_slice(line.as_bytes())
 }
 

@@ -1,6 +1,6 @@
 -- The worked figures, as one table and one statement over it.
 use Rattle.std.specs.Prelude.{◌≡◌, ℕ, ◌+◌, List, [], ◌∷◌, map, length, replicate, Some, slice_index}
-use Rattle.std.specs.List.{range_with_len, AllByRecursion as All}
+use Rattle.std.specs.List.{range_with_len, AllByRecursion}
 use Rattle.check32.specs.Addition.{sum_of}
 use Rattle.fragment.specs.Carriers.{Terms, data_call, voice_along_call}
 use Rattle.fragment.specs.Cutting.{piece_at}
@@ -45,4 +45,4 @@ table =
     ∷ [])))))))))
 
 abbrev pub FiguresStand : Type 0
-FiguresStand = All Stands table
+FiguresStand = AllByRecursion Stands table

@@ -1,5 +1,6 @@
 // Plays a drill over a pair: from its text to the text that is printed.
 #![tactic(auto)]
+
 ghost use Rattle.std.specs.Prelude.{◌≡◌, IfOk};
 ghost use Rattle.play.specs.Laws.{TellsHistory};
 ghost use Rattle.play.specs.Stories.{told_of, terms_of, number_by, answer_of};

@@ -1,5 +1,6 @@
 // The text of a drill: what it asks for, or its first wrong line.
 #![tactic(auto)]
+
 mod forms;
 mod heads;
 mod lines;

@@ -9,9 +9,9 @@ pub returns : goal.returns
 returns c =
     let u = c.args.ups in
     let text = vec_items c.args.text.now in
-    let three = c.push-heard-3 in
-    made_so (λ _. vec_items three.new.text ≡ vec_items c.push-heard-2.new.text ++ ups_lines (add_up u.third []))
+    let three = c.push_heard-3 in
+    made_so (λ _. vec_items three.new.text ≡ vec_items c.push_heard-2.new.text ++ ups_lines (add_up u.third []))
     (λ _. vec_items three.new.text ≡ text ++ ups_lines (ups_in u))
-    (λ _. three-told u.first u.second u.third text (vec_items c.push-heard.new.text) (vec_items c.push-heard-2.new.text) (vec_items three.new.text)
-    c.in-ok-push-heard.ensures c.in-ok-push-heard-2.ensures)
+    (λ _. three-told u.first u.second u.third text (vec_items c.push_heard.new.text) (vec_items c.push_heard-2.new.text) (vec_items three.new.text)
+    c.in_ok-push_heard.ensures c.in_ok-push_heard-2.ensures)
     three.result three.ensures

@@ -15,9 +15,9 @@ pub loop-message-preserved : goal.loop-message-preserved
 loop-message-preserved g c =
     let l = c.loop-message in
     let stand : Stand = stand_of l.stage l.store (g.F.Air.fates l.air) in
-    let x : Telling = telling (vec_items c.send.new.text) c.in-ok-stage.stage c.send.new.store (g.F.Air.fates c.send.new.air) in
+    let x : Telling = telling (vec_items c.send.new.text) c.in_ok-stage.stage c.send.new.store (g.F.Air.fates c.send.new.air) in
     send-told g.C.Carrier.terms g.K.Check.number c.args.messages.now l.message-index (vec_items l.text) stand x
-    c.loop-message-test.true c.in-ok-stage.ensures
+    c.loop-message-test.true c.in_ok-stage.ensures
     ∙ l.invariant
 
 pub returns : goal.returns

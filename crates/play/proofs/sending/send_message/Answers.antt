@@ -27,10 +27,10 @@ returns-in-Ok g c =
     let q : Pair = pair_of y store fates in
     let text = vec_items c.args.text.now in
     let same = ap (λ (z : Receiver g.row.C.Denot g.row.K.Denot). record { base = y.sender.base; route = z.route; state = z.state; store = store; fates = fates }) c.in-Ok.ensures.kept in
-    made_so _ (λ stage. telling (vec_items c.take-turns.new.text) stage c.take-turns.new.store (g.F.Air.fates c.take-turns.new.air)
+    made_so _ (λ stage. telling (vec_items c.take_turns.new.text) stage c.take_turns.new.store (g.F.Air.fates c.take_turns.new.air)
     ≡ telling_of text (on_started t number c.args.line m p [] (start_of t x.sender.base (length m))))
     (λ stage h. h ∙ started-told t number c.args.line m text p q y.sender.base y.sender.session (start_of t x.sender.base (length m)) c.in-Ok.ensures.value same)
-    c.take-turns.result c.take-turns.ensures
+    c.take_turns.result c.take_turns.ensures
 
 pub returns-in-Err : goal.returns-in-Err
 returns-in-Err g c =
@@ -43,11 +43,11 @@ returns-in-Err g c =
     let fates = g.F.Air.fates c.args.air.now in
     let p : Pair = rest_of x store fates in
     let text = vec_items c.args.text.now in
-    let after = vec_items c.tell-refused.new.text in
+    let after = vec_items c.tell_refused.new.text in
     made-both (λ stage. stage ≡ Between y.exchange) (λ _. after ≡ text ++ event_text c.args.line (refused y.fault))
     (λ stage. telling after stage store fates ≡ telling_of text (on_started t number c.args.line m p [] (start_of t x.sender.base (length m))))
     (λ stage same told.
     ap (λ (z : Stage g.row.C.Denot g.row.K.Denot). telling after z store fates) same
     ∙ ap (λ (z : Exchange g.row.C.Denot g.row.K.Denot). telling after (Between z) store fates) c.in-Err.ensures.back
     ∙ refused-told t number c.args.line m text after p y.fault (start_of t x.sender.base (length m)) c.in-Err.ensures.value told)
-    c.tell-refused.result c.tell-refused.ensures.same c.tell-refused.ensures.after
+    c.tell_refused.result c.tell_refused.ensures.same c.tell_refused.ensures.after
