@@ -23,7 +23,7 @@ use Rattle.sender.specs.Steps.{packet_of, sent_of, counted, put_with, blocks_in,
 use Rattle.packet.specs.Reading.{and_then}
 use Rattle.agreement.specs.Turns.{Pair, reception_of, reached_by, ok_of, turned_with, no_packet, turn_with, turn_of}
 use Rattle.agreement.proofs.Ties.{Lawful, Sending}
-use Rattle.agreement.proofs.Turning.{Answers, packet}
+use Rattle.agreement.proofs.Turning.{Answers}
 
 module _ (t : Terms) (number : List ℕ → ℕ) (law : Lawful t number) (own peer : ℕ) (own_small : own < 65536) (peer_small : peer < 65536)
     (message : List ℕ) (count : ℕ) (s : Session) (sending : Sending t s.serial message count) (below : s.number < count) (long : s.length ≡ length message)

@@ -1,6 +1,5 @@
 -- Endless lists of fates, and what the layers make of them.
-use Rattle.std.specs.Prelude.{◌≡◌, ℕ, suc, ◌+◌, Bool, true, false, cond, ◌&&◌, List, None, nat_le, slice_index_or}
-use Rattle.air.specs.declared.fate.Hearing.{Hearing}
+use Rattle.std.specs.Prelude.{ℕ, suc, ◌+◌, true, false, cond, ◌&&◌, List, None, nat_le, slice_index_or}
 use Rattle.air.specs.declared.fate.Hearings.{Hearings}
 use Rattle.air.specs.declared.fate.Hearings.TheVariants.{Silent, Once, Twice, Thrice}
 use Rattle.air.specs.declared.fate.Fate.{Fate}

@@ -1,5 +1,5 @@
 -- How a message is cut into fragments on a carrier.
-use Rattle.std.specs.Prelude.{◌≡◌, ℕ, ◌+◌, ◌-◌, ◌*◌, min, Bool, cond, Some, None, Ok, Err, Option, Result, ◌==◌, nat_lt}
+use Rattle.std.specs.Prelude.{ℕ, ◌+◌, ◌-◌, ◌*◌, min, Bool, cond, Some, None, Ok, Err, Option, Result, ◌==◌, nat_lt}
 use Rattle.fault.specs.declared.EndFault.{EndFault}
 use Rattle.fault.specs.declared.EndFault.TheVariants.{Empty, TooLong}
 use Rattle.fragment.specs.declared.piece.Fragment.{Fragment}

@@ -1,5 +1,5 @@
 -- Reading what was written: records first, then the header.
-use Rattle.std.proofs.Common.{◌≡◌, ℕ, zero, suc, ◌+◌, ◌-◌, ◌*◌, ◌/◌, ◌%◌, ◌<◌, ◌≤◌, Bool, true, false, cond, not, ◌&&◌, ◌||◌, eqb, ltb, leb, List, [], ◌∷◌, ◌++◌, length, get_or, take, drop, IfOk, Some, None, Ok, Err, filter, Result, sym, refl, ap, ◌∙◌, subst, ap₂, inl, inr, mul-le-mul_right, suc-mul, zero-mul, arith}
+use Rattle.std.proofs.Common.{◌≡◌, ℕ, zero, suc, ◌+◌, ◌-◌, ◌*◌, ◌/◌, ◌%◌, ◌<◌, ◌≤◌, Bool, true, false, not, ◌&&◌, ◌||◌, eqb, ltb, leb, List, [], ◌∷◌, ◌++◌, length, get_or, take, drop, IfOk, Some, None, Ok, Err, filter, Result, sym, refl, ap, ◌∙◌, subst, inl, inr, mul-le-mul_right, suc-mul, zero-mul, arith}
 use Rattle.std.specs.List.{range_with_len, AllByRecursion}
 use Rattle.std.proofs.lemmas.List.{length-append, take_at, drop_at, drop-drop, drop_more, length-drop, get_or-drop}
 use Rattle.std.proofs.lemmas.List.FromFn.{length-range_with_len}
@@ -16,7 +16,6 @@ use Rattle.packet.specs.declared.values.Route.{Route}
 use Rattle.packet.specs.declared.values.Blocks.{Blocks}
 use Rattle.packet.specs.declared.values.Blocks.TheVariants.{All, Only}
 use Rattle.packet.specs.declared.values.Header.{Header}
-use Rattle.packet.specs.declared.values.BlockSet.{BlockSet}
 use Rattle.packet.specs.Blocks.{has, carries, carried, fitting, is_selective as is_selective_blocks}
 use Rattle.packet.specs.Images.{covered, image_of, block_of}
 use Rattle.packet.specs.Layout.{flags_of, header_for, header_octets, record_octets, records_octets, packet_octets, packet_length, Written, written, written_of}

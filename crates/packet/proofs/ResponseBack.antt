@@ -1,6 +1,5 @@
 -- Reading a response that was written.
-use Rattle.std.proofs.Common.{◌≡◌, ℕ, ◌+◌, ◌*◌, ◌/◌, ◌%◌, ◌<◌, leb, List, ◌++◌, length, take, drop, IfOk, Ok, Result, sym, refl, ap, ◌∙◌, subst, arith}
-use Rattle.std.proofs.lemmas.List.{take_at}
+use Rattle.std.proofs.Common.{◌≡◌, ℕ, ◌<◌, leb, List, length, take, IfOk, Ok, Result, sym, subst, arith}
 use Rattle.std.proofs.lemmas.Bool.{lt-ltb, cond_both}
 use Rattle.fault.specs.declared.PacketFault.{PacketFault}
 use Rattle.fragment.specs.Carriers.{Terms, Sound}
@@ -8,7 +7,6 @@ use Rattle.packet.specs.declared.values.Route.{Route}
 use Rattle.packet.specs.declared.values.Code.{Code}
 use Rattle.packet.specs.declared.values.Code.TheVariants.{Ack, AckSelective, FullRetry, OutOfStep}
 use Rattle.packet.specs.declared.values.Response.{Response}
-use Rattle.packet.specs.Octets.{over}
 use Rattle.packet.specs.Layout.{Written, written}
 use Rattle.packet.specs.Responses.{code_flags, response_octets, responded_of, response_of}
 use Rattle.packet.specs.ReadBack.{ResponseReads}

@@ -1,6 +1,6 @@
 -- The parts of an image: data, pad and check, place by place.
-use Rattle.std.proofs.Common.{◌≡◌, ℕ, ◌+◌, ◌-◌, ◌*◌, ◌<◌, ◌≤◌, min, List, [], ◌∷◌, ◌++◌, length, get_or, take, drop, replicate, sym, refl, ap, ◌∙◌, mul-le-mul_right, suc-mul, arith, rules}
-use Rattle.std.proofs.lemmas.List.{length-append, length-replicate, length-take, length-take-le, length-drop, get_or_append_left, get_or-append_right, get_or-take, get_or-drop, get_or-replicate, take-replicate, append-nil, append_assoc, same_lists, places}
+use Rattle.std.proofs.Common.{◌≡◌, ℕ, ◌+◌, ◌-◌, ◌*◌, ◌<◌, ◌≤◌, min, List, [], ◌++◌, length, get_or, take, drop, replicate, sym, refl, ap, ◌∙◌, mul-le-mul_right, suc-mul, arith, rules}
+use Rattle.std.proofs.lemmas.List.{length-append, length-replicate, length-take-le, length-drop, get_or_append_left, get_or-append_right, get_or-take, get_or-drop, get_or-replicate, take-replicate, append-nil, append_assoc, same_lists, places}
 use Rattle.fragment.specs.Streams.{stream_of, four_octets}
 use Rattle.packet.specs.declared.image.Image.{Image}
 use Rattle.packet.specs.Images.{covered, block_of}

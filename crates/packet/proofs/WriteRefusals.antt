@@ -12,7 +12,7 @@ use Rattle.fragment.specs.Cutting.{Piece}
 use Rattle.packet.specs.declared.values.Route.{Route}
 use Rattle.packet.specs.declared.values.Blocks.{Blocks}
 use Rattle.packet.specs.declared.values.Blocks.TheVariants.{All, Only}
-use Rattle.packet.specs.Blocks.{has, carried, fitting}
+use Rattle.packet.specs.Blocks.{carried, fitting}
 use Rattle.packet.specs.Layout.{Written, packet_length, written, written_of}
 use Rattle.packet.specs.ReadBack.{ReadsAsWritten}
 use Rattle.packet.specs.Refusals.{RefusedAtEnd, Unaskable, Unlent, WriteRefusals}

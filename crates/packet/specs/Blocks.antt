@@ -1,5 +1,5 @@
 -- Sets of blocks, and which blocks a packet carries.
-use Rattle.std.specs.Prelude.{◌≡◌, ℕ, ◌/◌, ◌%◌, ◌^◌, Bool, true, false, not, ◌&&◌, List, length, sum_by, filter, ◌==◌, nat_lt}
+use Rattle.std.specs.Prelude.{ℕ, ◌/◌, ◌%◌, ◌^◌, Bool, true, false, not, ◌&&◌, List, sum_by, filter, ◌==◌, nat_lt}
 use Rattle.std.specs.List.{range_with_len}
 use Rattle.fragment.specs.Carriers.{Terms}
 use Rattle.packet.specs.declared.values.BlockSet.{BlockSet}

@@ -1,6 +1,5 @@
 -- The octets of packets and responses.
-use Rattle.std.specs.Prelude.{ℕ, ◌+◌, ◌-◌, ◌*◌, Bool, true, false, cond, List, [], ◌∷◌, ◌++◌, length, Ok, Err, Result, ◌==◌, nat_le}
-use Rattle.fault.specs.declared.PacketFault.{PacketFault}
+use Rattle.std.specs.Prelude.{ℕ, ◌+◌, ◌-◌, ◌*◌, Bool, cond, List, [], ◌∷◌, ◌++◌, length, Ok, Err, Result, ◌==◌, nat_le}
 use Rattle.fault.specs.declared.PacketFault.TheVariants.{Buffer, Message}
 use Rattle.fault.specs.declared.EndFault.{EndFault}
 use Rattle.fault.specs.declared.EndFault.TheVariants as end

@@ -1,9 +1,8 @@
 -- The octets of a response, and what reading them answers.
-use Rattle.std.specs.Prelude.{ℕ, Bool, cond, ◌&&◌, ◌||◌, List, [], ◌∷◌, ◌++◌, length, Ok, Err, Result, ◌==◌, nat_le, nat_lt, slice_index}
+use Rattle.std.specs.Prelude.{ℕ, Bool, cond, ◌&&◌, ◌||◌, List, [], ◌∷◌, ◌++◌, length, Ok, Result, ◌==◌, nat_le, nat_lt, slice_index}
 use Rattle.fault.specs.declared.PacketFault.{PacketFault}
 use Rattle.fault.specs.declared.PacketFault.TheVariants.{Length, Kind, Field, Buffer}
 use Rattle.fragment.specs.Carriers.{Terms}
-use Rattle.packet.specs.declared.values.BlockSet.{BlockSet}
 use Rattle.packet.specs.declared.values.Code.{Code}
 use Rattle.packet.specs.declared.values.Code.TheVariants.{Ack, AckSelective, FullRetry, OutOfStep}
 use Rattle.packet.specs.declared.values.Kind.TheVariants as kind

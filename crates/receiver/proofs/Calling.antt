@@ -1,10 +1,9 @@
 -- A call, from what its parts promise.
-use Rattle.std.proofs.Common.{◌≡◌, ℕ, ◌≤◌, leb, List, length, Ok, Err, Result, sym, refl, ap, ◌∙◌, ap₂}
+use Rattle.std.proofs.Common.{◌≡◌, ℕ, ◌≤◌, leb, List, length, Ok, Err, Result, sym, ap, ◌∙◌}
 use Rattle.std.proofs.lemmas.Bool.{cond-true, le-leb}
 use Rattle.fault.specs.declared.PacketFault.{PacketFault}
 use Rattle.fault.specs.declared.EndFault.{EndFault}
 use Rattle.fragment.specs.Carriers.{Terms}
-use Rattle.packet.specs.declared.values.Header.{Header}
 use Rattle.packet.specs.declared.values.Route.{Route}
 use Rattle.packet.specs.declared.values.Response.{Response}
 use Rattle.packet.specs.Octets.{over}
@@ -14,7 +13,7 @@ use Rattle.packet.specs.Views.{Seen}
 use Rattle.receiver.specs.declared.state.State.{State}
 use Rattle.receiver.specs.declared.state.Heard.{Heard}
 use Rattle.receiver.specs.Fill.{After, after, heard_of}
-use Rattle.receiver.specs.Calls.{Called, called, admit_of, admitted_of, on_admitted, call_of}
+use Rattle.receiver.specs.Calls.{called, admit_of, admitted_of, on_admitted, call_of}
 use Rattle.receiver.proofs.Admitting.{seen-is, unseen-is, admitted-read}
 
 -- A response that there is room for is written.

@@ -1,22 +1,21 @@
 -- At most sixteen blocks are collected, whatever comes.
-use Rattle.std.proofs.Common.{◌≡◌, ℕ, ◌+◌, ◌≤◌, Bool, true, false, cond, not, ◌&&◌, eqb, leb, List, length, sym, refl, ap, ◌∙◌, subst}
+use Rattle.std.proofs.Common.{◌≡◌, ℕ, ◌+◌, ◌≤◌, Bool, true, false, not, ◌&&◌, eqb, leb, List, length, sym, refl, ap, ◌∙◌, subst}
 use Rattle.std.proofs.lemmas.Bool.{cond_both, le-leb}
 use Rattle.fragment.specs.Carriers.{Terms}
 use Rattle.packet.specs.declared.values.Header.{Header}
-use Rattle.packet.specs.declared.values.Code.TheVariants.{Ack, FullRetry, OutOfStep}
 use Rattle.receiver.specs.declared.state.Gathering.{Gathering}
 use Rattle.receiver.specs.declared.state.Phase.{Phase}
 use Rattle.receiver.specs.declared.state.Phase.TheVariants.{Idle, Collecting, Waiting, Done}
 use Rattle.receiver.specs.declared.state.State.{State}
 use Rattle.receiver.specs.declared.state.Event.{Event}
-use Rattle.receiver.specs.declared.state.Event.TheVariants.{FullStart, Full, Selective, Expiry}
+use Rattle.receiver.specs.declared.state.Event.TheVariants.{FullStart, Full, Selective}
 use Rattle.receiver.specs.declared.state.Act.{Act}
 use Rattle.receiver.specs.declared.state.Act.TheVariants.{Rest, Answer, Fill}
 use Rattle.receiver.specs.declared.state.BlockStore.{BlockStore}
 use Rattle.receiver.specs.Store.{filled_by, missing_of, is_right}
 use Rattle.receiver.specs.Few.{few_in}
 use Rattle.receiver.specs.Rows.{Row, same, acknowledged, lost, wanted, filling, gathering, blocks_anew, stray, full_row, selective_row, row, row_of, event_of}
-use Rattle.receiver.specs.Fill.{After, after, is_last, serial_in, completed, appended, lacking, spoilt, octets_of, finished, filled, done_by, heard_of}
+use Rattle.receiver.specs.Fill.{After, is_last, serial_in, appended, lacking, spoilt, octets_of, finished, done_by, heard_of}
 
 abbrev pub few_in-act : Act → Bool
 few_in-act Rest = true

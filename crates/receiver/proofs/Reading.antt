@@ -1,10 +1,10 @@
 -- What is known of a packet that was read: its records are few, and its good blocks can be stored.
-use Rattle.std.proofs.Common.{◌≡◌, ℕ, ◌+◌, ◌*◌, ◌<◌, ◌≤◌, Bool, true, false, cond, ◌&&◌, eqb, ltb, leb, ◌⊎◌, List, length, get_or, take, drop, Some, None, Ok, Option, sym, refl, ap, ◌∙◌, subst, inl, inr, mul-le-mul_right, suc-mul, arith}
+use Rattle.std.proofs.Common.{◌≡◌, ℕ, ◌+◌, ◌<◌, ◌≤◌, Bool, true, ◌&&◌, ltb, leb, ◌⊎◌, List, length, get_or, take, drop, Some, None, Ok, sym, ap, ◌∙◌, subst, inl, inr, mul-le-mul_right, suc-mul, arith}
 use Rattle.std.proofs.lemmas.Bool.{cases_lt, cases_eq, cases_Bool, and_parts, and_from, eqb-true, eq-eqb, leb-true, le-leb, ltb-true, lt-ltb, cond-true, cond-false}
 use Rattle.fragment.specs.Carriers.{Terms, Sound}
 use Rattle.packet.specs.declared.values.Header.{Header}
 use Rattle.packet.specs.Reading.{Block, block_at, is_good, record_place, read_of, header_at}
-use Rattle.packet.specs.Refusals.{Full, Selective, flags_at, records_at, number_at, GoodRecord, Headed, Whole, WrongHeader, WrongRecord, other_flags, many_records, other_block, high_block}
+use Rattle.packet.specs.Refusals.{Full, Selective, flags_at, records_at, number_at, GoodRecord, Headed, Whole, WrongRecord, other_flags, many_records, other_block, high_block}
 use Rattle.packet.proofs.Refusals.{else-false}
 use Rattle.packet.proofs.ReadRefusals.{packet-refusals}
 use Rattle.packet.proofs.Sealed.{length_part}

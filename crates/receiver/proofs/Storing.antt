@@ -1,5 +1,5 @@
 -- The block store: places, what is missing, and the loop over a packet's records.
-use Rattle.std.proofs.Common.{◌≡◌, ℕ, suc, ◌+◌, ◌-◌, ◌*◌, ◌^◌, ◌<◌, ◌≤◌, Bool, true, false, cond, List, [], ◌∷◌, ◌++◌, length, take, drop, Some, None, sum_by, filter, Option, sym, refl, ap, ◌∙◌, suc-mul, mul-le-mul, pow-suc, zero-add, add-one, arith}
+use Rattle.std.proofs.Common.{◌≡◌, ℕ, suc, ◌+◌, ◌-◌, ◌*◌, ◌^◌, ◌<◌, ◌≤◌, Bool, true, false, cond, List, [], ◌∷◌, Some, sum_by, filter, Option, refl, ap, ◌∙◌, suc-mul, mul-le-mul, pow-suc, zero-add, add-one, arith}
 use Rattle.std.specs.List.{range_with_len}
 use Rattle.std.proofs.lemmas.List.Sums.{sum_by-append}
 use Rattle.packet.specs.declared.values.Header.{Header}

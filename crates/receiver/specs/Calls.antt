@@ -1,5 +1,5 @@
 -- What the receiver's calls answer and leave.
-use Rattle.std.specs.Prelude.{ℕ, ◌+◌, Bool, true, false, cond, ◌&&◌, List, [], ◌∷◌, length, take, drop, Some, None, Ok, Err, Option, Result, ◌==◌, nat_le}
+use Rattle.std.specs.Prelude.{ℕ, ◌+◌, Bool, cond, ◌&&◌, List, [], ◌∷◌, length, take, drop, Some, None, Ok, Err, Option, Result, ◌==◌, nat_le}
 use Rattle.fault.specs.declared.PacketFault.{PacketFault}
 use Rattle.fault.specs.declared.PacketFault.TheVariants.{Buffer}
 use Rattle.fault.specs.declared.EndFault.{EndFault}
@@ -16,7 +16,6 @@ use Rattle.receiver.specs.declared.state.Phase.TheVariants.{Idle, Collecting, Wa
 use Rattle.receiver.specs.declared.state.State.{State}
 use Rattle.receiver.specs.declared.state.Event.TheVariants.{Expiry}
 use Rattle.receiver.specs.declared.state.Heard.{Heard}
-use Rattle.receiver.specs.declared.state.HandUp.{HandUp}
 use Rattle.receiver.specs.Store.{fresh, past_from}
 use Rattle.receiver.specs.Rows.{same, row_of}
 use Rattle.receiver.specs.Fill.{After, heard_of}

@@ -1,5 +1,5 @@
 -- What follows once the good blocks of a packet are in the block store.
-use Rattle.std.specs.Prelude.{ℕ, ◌+◌, ◌-◌, ◌*◌, Bool, true, false, cond, ◌&&◌, List, length, take, Some, None, Option, ◌==◌, nat_le}
+use Rattle.std.specs.Prelude.{ℕ, ◌+◌, ◌-◌, Bool, false, cond, ◌&&◌, List, length, take, Some, None, Option, ◌==◌, nat_le}
 use Rattle.fragment.specs.Carriers.{Terms}
 use Rattle.fragment.specs.Streams.{Content, split_of}
 use Rattle.packet.specs.declared.values.Header.{Header}
@@ -8,15 +8,14 @@ use Rattle.packet.specs.declared.values.Code.TheVariants.{Ack, AckSelective, Ful
 use Rattle.packet.specs.Octets.{over}
 use Rattle.receiver.specs.declared.state.Gathering.{Gathering}
 use Rattle.receiver.specs.declared.state.Phase.{Phase}
-use Rattle.receiver.specs.declared.state.Phase.TheVariants.{Idle, Collecting, Waiting, Done}
+use Rattle.receiver.specs.declared.state.Phase.TheVariants.{Waiting, Done}
 use Rattle.receiver.specs.declared.state.Last.{Last}
 use Rattle.receiver.specs.declared.state.State.{State}
 use Rattle.receiver.specs.declared.state.Act.{Act}
 use Rattle.receiver.specs.declared.state.Act.TheVariants.{Rest, Answer, Fill}
-use Rattle.receiver.specs.declared.state.HandUp.{HandUp}
 use Rattle.receiver.specs.declared.state.Heard.{Heard}
 use Rattle.receiver.specs.Store.{filled_by, missing_of, check_place, check_in, is_right}
-use Rattle.receiver.specs.Rows.{idle, blocks_anew, Row, row_of, event_of}
+use Rattle.receiver.specs.Rows.{idle, blocks_anew, row_of, event_of}
 
 -- What a packet leaves: the state, the message store, and what it got.
 pub record After : Type 0 where

@@ -1,8 +1,7 @@
 -- The receiver's rows: a phase meets an event.
-use Rattle.std.specs.Prelude.{ℕ, ◌+◌, Bool, true, false, cond, not, ◌&&◌, ◌==◌}
+use Rattle.std.specs.Prelude.{◌+◌, Bool, true, false, cond, not, ◌&&◌, ◌==◌}
 use Rattle.packet.specs.declared.values.Header.{Header}
 use Rattle.packet.specs.declared.values.Code.TheVariants.{Ack, FullRetry, OutOfStep}
-use Rattle.receiver.specs.declared.state.BlockStore.{BlockStore}
 use Rattle.receiver.specs.declared.state.Gathering.{Gathering}
 use Rattle.receiver.specs.declared.state.Phase.{Phase}
 use Rattle.receiver.specs.declared.state.Phase.TheVariants.{Idle, Collecting, Waiting, Done}

@@ -1,5 +1,5 @@
 -- The block store: sixteen blocks by number, and marks that say which are held.
-use Rattle.std.specs.Prelude.{◌≡◌, ℕ, zero, suc, ◌+◌, ◌-◌, ◌*◌, Bool, true, false, cond, not, List, [], ◌∷◌, length, take, drop, set, replicate, Some, None, filter, Option, ◌==◌, nat_le, slice_index_or, slice_set}
+use Rattle.std.specs.Prelude.{ℕ, zero, suc, ◌+◌, ◌-◌, ◌*◌, Bool, true, false, cond, not, List, take, drop, replicate, Some, None, filter, Option, ◌==◌, nat_le, slice_index_or, slice_set}
 use Rattle.std.specs.List.{range_with_len}
 use Rattle.fragment.specs.Streams.{four_at}
 use Rattle.packet.specs.declared.values.Header.{Header}

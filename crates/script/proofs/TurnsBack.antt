@@ -1,5 +1,5 @@
 -- A turn is read as it was written.
-use Rattle.std.proofs.Common.{◌≡◌, ℕ, zero, suc, ◌+◌, ◌-◌, ◌*◌, ◌/◌, ◌%◌, ◌^◌, ◌<◌, ◌≤◌, Bool, true, false, eqb, ltb, leb, List, ◌++◌, get_or, Some, None, codes, Option, sym, refl, ap, ◌∙◌, add_comm, arith}
+use Rattle.std.proofs.Common.{◌≡◌, ℕ, zero, suc, ◌+◌, ◌*◌, ◌/◌, ◌%◌, ◌^◌, ◌<◌, ◌≤◌, Bool, true, false, eqb, ltb, leb, List, ◌++◌, get_or, Some, None, codes, Option, sym, refl, ap, ◌∙◌, add_comm, arith}
 use Rattle.std.proofs.lemmas.Nat.{mod-pow-add}
 use Rattle.std.proofs.lemmas.Bool.{cond-false, cond_both, eqb-true, eqb-false, ne_eqb, leb-true, ltb-true, and_parts}
 use Rattle.air.specs.declared.fate.Alteration.{Alteration}
@@ -8,7 +8,7 @@ use Rattle.air.specs.declared.fate.Hearings.{Hearings}
 use Rattle.air.specs.declared.fate.Hearings.TheVariants.{Silent, Once, Twice, Thrice}
 use Rattle.air.specs.declared.fate.Fate.{Fate}
 use Rattle.script.specs.Words.{read_on, if_there, past, optional, is_digit, next_figure}
-use Rattle.script.specs.Turns.{records_from, some_bad, bad_of, masked, altered, alteration_of, replied, heard, hearing_of, third, second, first, hearings_of, ended, waited, turn_of}
+use Rattle.script.specs.Turns.{records_from, some_bad, bad_of, masked, altered, alteration_of, replied, hearing_of, third, second, first, hearings_of, ended, waited, turn_of}
 use Rattle.script.specs.Written.{line_end, item_before, word_before, is_bad, records_before, bad_before, alteration_before, hearing_before, hearings_before, turn_line, alteration_fits, hearing_fits, hearings_fit}
 use Rattle.script.proofs.Figures.{figure-to-back, next-back}
 use Rattle.script.proofs.Records.{record-more, records-end, records-all}

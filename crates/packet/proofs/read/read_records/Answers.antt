@@ -1,5 +1,5 @@
 -- A turn reads one record.
-use Rattle.std.proofs.Common.{◌≡◌, ℕ, ◌+◌, ◌*◌, ap, arith}
+use Rattle.std.proofs.Common.{◌≡◌, ◌+◌, ◌*◌, ap, arith}
 use Rattle.std.proofs.lemmas.Result.{err_from_is_err_and}
 use Rattle.packet.proofs.Records.{record-within, record-more}
 use Rattle.packet.proofs.read.read_records.Goals as goal

@@ -1,5 +1,5 @@
 -- The three parts that are read are the data and the pad.
-use Rattle.std.proofs.Common.{◌≡◌, ℕ, ◌+◌, List, [], ◌++◌, refl, ap, ◌∙◌, arith}
+use Rattle.std.proofs.Common.{[], refl, ap, ◌∙◌, arith}
 use Rattle.fragment.specs.Streams.{four_octets}
 use Rattle.packet.proofs.Sealed.{parts-covered, same_number}
 use Rattle.packet.proofs.sealing.seal_of.Goals as goal

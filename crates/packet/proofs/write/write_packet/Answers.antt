@@ -1,5 +1,5 @@
 -- The records stand behind the header, and the image is sealed by its check.
-use Rattle.std.proofs.Common.{◌≡◌, ◌+◌, ◌*◌, sym, ap, ◌∙◌, arith, rules}
+use Rattle.std.proofs.Common.{◌+◌, ◌*◌, sym, ap, ◌∙◌, arith, rules}
 use Rattle.fragment.specs.Cutting.{piece_of}
 use Rattle.packet.proofs.Sets.{some-carried}
 use Rattle.packet.proofs.Writing.{packet-over, packet-written, packet-unwritten}

@@ -1,5 +1,5 @@
 -- A turn writes the record of its block, where that is carried.
-use Rattle.std.proofs.Common.{◌≡◌, sym, ◌∙◌, arith}
+use Rattle.std.proofs.Common.{sym, ◌∙◌}
 use Rattle.packet.specs.Sealing.{image_in}
 use Rattle.packet.proofs.Sealed.{length-image, length-block}
 use Rattle.packet.proofs.Writing.{writing-some, writing-room, writing_more, writing-skips, writing-done}

@@ -1,5 +1,5 @@
 -- Each way answers the first test that fails.
-use Rattle.std.proofs.Common.{◌≡◌, Err, ap, ◌∙◌}
+use Rattle.std.proofs.Common.{Err, ap, ◌∙◌}
 use Rattle.std.proofs.lemmas.Result.{err_from_is_err_and}
 use Rattle.packet.specs.Reading.{read_of}
 use Rattle.packet.specs.Views.{Seen}

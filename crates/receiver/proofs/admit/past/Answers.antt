@@ -1,5 +1,5 @@
 -- A turn looks at one record.
-use Rattle.std.proofs.Common.{◌≡◌, ℕ, ◌+◌, ◌*◌, Some, None, refl, ap, ◌∙◌, ap₂, arith}
+use Rattle.std.proofs.Common.{ℕ, ◌+◌, ◌*◌, Some, None, refl, ap, ◌∙◌, ap₂}
 use Rattle.std.proofs.lemmas.Bool.{le-leb, lt-leb}
 use Rattle.packet.specs.Reading.{Block, block_at}
 use Rattle.receiver.proofs.Storing.{past-here, past-on}

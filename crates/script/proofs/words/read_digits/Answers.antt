@@ -1,5 +1,5 @@
 -- One digit a turn.
-use Rattle.std.proofs.Common.{◌≡◌, ℕ, ◌+◌, ◌-◌, ◌*◌, get_or, drop, sym, ap, ◌∙◌, arith, ltb-false, ltb-true}
+use Rattle.std.proofs.Common.{◌≡◌, ◌+◌, ◌-◌, ◌*◌, get_or, drop, sym, ap, ◌∙◌, arith, ltb-false, ltb-true}
 use Rattle.std.proofs.lemmas.List.{take_rest}
 use Rattle.script.specs.Words.{figure_from}
 use Rattle.script.proofs.Reading.{digit-more, digits-all}

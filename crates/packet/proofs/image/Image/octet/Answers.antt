@@ -1,5 +1,5 @@
 -- Each way reads its own part of the image.
-use Rattle.std.proofs.Common.{◌≡◌, ℕ, ◌+◌, ◌-◌, ◌≤◌, List, length, get_or, sym, ap, ◌∙◌, arith}
+use Rattle.std.proofs.Common.{ℕ, ◌+◌, ◌-◌, List, get_or, sym, ap, ◌∙◌, arith}
 use Rattle.fragment.specs.Streams.{stream_of, four_octets}
 use Rattle.fragment.specs.Cutting.{piece_of}
 use Rattle.fragment.specs.Laws.{data_in}

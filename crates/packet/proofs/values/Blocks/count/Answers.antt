@@ -1,5 +1,5 @@
 -- One block more is counted exactly where it is carried.
-use Rattle.std.proofs.Common.{◌≡◌, true, false, sym, ◌∙◌, arith}
+use Rattle.std.proofs.Common.{true, false, sym, ◌∙◌, arith}
 use Rattle.packet.specs.Blocks.{carries}
 use Rattle.packet.proofs.Sets.{length-kept-more}
 use Rattle.packet.proofs.values.Blocks.count.Goals as goal

@@ -1,5 +1,5 @@
 -- A fresh receiver has a fresh block store.
-use Rattle.std.proofs.Common.{◌≡◌, leb, length, None, Ok, Result, sym, refl, ap, ◌∙◌, arith}
+use Rattle.std.proofs.Common.{leb, length, None, Ok, Result, sym, refl, ap, ◌∙◌, arith}
 use Rattle.std.proofs.lemmas.Bool.{cond-true, le-leb}
 use Rattle.fault.specs.declared.EndFault.{EndFault}
 use Rattle.receiver.specs.declared.state.BlockStore.{BlockStore}

@@ -1,5 +1,5 @@
 -- The part of the store that is copied to holds the first octets.
-use Rattle.std.proofs.Common.{◌≡◌, ℕ, ◌-◌, length, take, ap, ◌∙◌, arith, rules}
+use Rattle.std.proofs.Common.{◌≡◌, ◌-◌, length, take, ap, ◌∙◌, arith, rules}
 use Rattle.packet.proofs.Over.{mid-over}
 use Rattle.receiver.proofs.state.BlockStore.copy_to.Goals as goal
 

@@ -1,5 +1,5 @@
 -- A good record's block goes in, and a bad one changes nothing.
-use Rattle.std.proofs.Common.{◌≡◌, ℕ, Some, None, sym, ap, ◌∙◌, arith}
+use Rattle.std.proofs.Common.{Some, None, sym, ap, ◌∙◌, arith}
 use Rattle.packet.specs.Reading.{Block, block_at}
 use Rattle.receiver.proofs.Storing.{filled_more, put_same}
 use Rattle.receiver.proofs.state.BlockStore.fill.Goals as goal

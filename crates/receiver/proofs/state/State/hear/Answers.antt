@@ -1,5 +1,5 @@
 -- Filling in the blocks and finishing is what the row asks for.
-use Rattle.std.proofs.Common.{◌≡◌, ap, ◌∙◌}
+use Rattle.std.proofs.Common.{ap, ◌∙◌}
 use Rattle.receiver.specs.Few.{few_in}
 use Rattle.receiver.specs.Fill.{After}
 use Rattle.receiver.proofs.Keeping.{fill-heard, fill-few}
