@@ -147,7 +147,7 @@ pub record Agreement (t : Terms) (o : Origin) (log : History) : Type 0 where
   pub reported_was_started : (s packets : ℕ) (outcome : Outcome) → Reported s outcome packets log → (octets : List ℕ) × Started s octets log
   -- by the time that a session is reported delivered, its message was handed up
   pub delivered_was_handed_up : (s packets : ℕ) (later earlier : History) → log ≡ later ++ earlier → Reported s Delivered packets earlier → HandedUp s earlier
-  -- the message of a session reported not_delivered is handed up nowhere
+  -- the message of a session reported not-delivered is handed up nowhere
   pub not_delivered_never : (s packets : ℕ) → Reported s NotDelivered packets log → HandedUp s log → ⊥
   -- a session is reported unknown exactly when R + 1 packets of its last fragment went out and none was settled
   pub unknown_exactly_when : (s : ℕ)

@@ -1,5 +1,5 @@
 // The marks of a hearing: records that come bad, and an altered octet.
-ghost use Rattle.std.specs.Prelude.{◌≡◌, ℕ, ◌+◌, ◌≤◌, set, Some, slice_set};
+ghost use Rattle.std.specs.Prelude.{◌≡◌, ℕ, ◌+◌, ◌≤◌, Some, slice_set};
 ghost use Rattle.packet.specs.declared.values.Quality.TheVariants.{Bad};
 ghost use Rattle.packet.specs.Layout.{quality_number};
 ghost use Rattle.packet.specs.Reading.{record_place};

@@ -1,15 +1,27 @@
 // Why the text of a drill is refused, and at which line.
-ghost use Rattle.std.specs.Prelude.{◌≡◌};
-ghost use Rattle.tell.specs.Faults.{drill_number, drill_layer, drill_place};
+ghost use Rattle.std.specs.Prelude.{◌≡◌, Some};
+ghost use Rattle.tell.specs.Faults.{drill_number, drill_layer, drill_place, drill_layer_name};
 ghost use Rattle.tell.specs.declared.faults.DrillFault.TheVariants.{End};
 
 use fault::{EndFault, Layer};
+use std::fmt;
 
 // The layer that refuses: one below the drill's text, or the text itself.
-#[derive(Clone, Copy)]
+#[derive(Clone, Copy, PartialEq, Eq, Debug)]
 pub enum DrillLayer {
     Below(Layer),
     Drill,
+}
+
+impl fmt::Display for DrillLayer {
+    ghost output = { λ l. Some (drill_layer_name l) };
+
+    fn fmt<W: fmt::Write>(&self, f: &mut fmt::Formatter<W>) -> fmt::Result {
+        match self {
+            Self::Below(layer) => layer.fmt(f),
+            Self::Drill => f.write_str("drill"),
+        }
+    }
 }
 
 #[derive(Clone, Copy)]
