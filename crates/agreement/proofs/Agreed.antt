@@ -14,8 +14,8 @@ use Rattle.packet.specs.Blocks.{carried}
 use Rattle.packet.specs.Reading.{and_then}
 use Rattle.sender.specs.declared.values.Base.{Base}
 use Rattle.sender.specs.declared.values.Session.{Session}
-use Rattle.sender.specs.declared.values.Stepped.{Stepped}
-use Rattle.sender.specs.declared.values.Stepped.TheVariants.{On, Ended}
+use Rattle.sender.specs.Steps.{Stepped}
+use Rattle.sender.specs.declared.values.Next.TheVariants.{On, Ended}
 use Rattle.sender.specs.Steps.{fresh_of, start_of, with_serial, serial_after, counted, step_of, block_count}
 use Rattle.receiver.specs.declared.state.State.{State}
 use Rattle.receiver.specs.Calls.{fresh_state, made_of}
@@ -23,7 +23,8 @@ use Rattle.air.specs.declared.fate.Alteration.{Alteration}
 use Rattle.air.specs.declared.fate.Fate.{Fate}
 use Rattle.air.specs.declared.fate.Hearing.{Hearing}
 use Rattle.air.specs.Fates.{tail}
-use Rattle.agreement.specs.Turns.{Pair, Reception, hearings_of, all_heard, waited, unheard, reached_by, Turned, turned_with, turn_of}
+use Rattle.air.specs.Few.{listed}
+use Rattle.agreement.specs.Turns.{Pair, Reception, all_heard, waited, unheard, reached_by, Turned, turned_with, turn_of}
 use Rattle.agreement.specs.Histories.{Message, Turn, Event, refused, started, turned, History, World, between, within, Origin, message_of, report_in, note_of, left_by, with_base, Every, Octets, Reached, fresh, start_refused, start, turn_refused, turn}
 use Rattle.agreement.specs.Agreement.{Has, Within, turns_in, started_in, handed_up_in, turns_of, Numbered, FromAir, Altered, AtOneOctet, Agreement, Goes}
 use Rattle.agreement.proofs.Ties.{Lawful, Sized, LastBelow}
@@ -39,7 +40,7 @@ module _ (t : Terms) (number : List ℕ → ℕ) (law : Lawful t number) (o : Or
   -- The alterations that count are, in each fragment, in this block.
   abbrev OnlyAt : History → Type 0
   OnlyAt log = (x : Turn) → Has x (turns_in log)
-      → Every (λ h. (a : Alteration) → Altered t x h a → get_or x.blocks a.«record» 0 ≡ pos x.serial x.number) (hearings_of x.fate.heard)
+      → Every (λ h. (a : Alteration) → Altered t x h a → get_or x.blocks a.«record» 0 ≡ pos x.serial x.number) (listed x.fate.heard)
 
   module _ (own peer : ℕ) (own_small : own < 65536) (peer_small : peer < 65536) where
     -- A turn of an open session.
@@ -53,7 +54,7 @@ module _ (t : Terms) (number : List ℕ → ℕ) (law : Lawful t number) (o : Or
       a = pos s.serial s.number
 
       abbrev hs : List Hearing
-      hs = hearings_of (p.fates 0).heard
+      hs = listed (p.fates 0).heard
 
       abbrev first : Reception
       first = unheard (p.fates 0).wait p
@@ -120,7 +121,7 @@ module _ (t : Terms) (number : List ℕ → ℕ) (law : Lawful t number) (o : Or
 
       own-reports : (r : State) (store : List ℕ) (log' : History) (stepped : Stepped) → Comes t number law o own peer own_small peer_small pos s m r store log' stepped → OfSession s.serial (report_in stepped)
       own-reports r store log' (On s') c = tt
-      own-reports r store log' (Ended report) c = c.4
+      own-reports r store log' (Ended report left) c = c.4
 
       -- What a turn leaves.
       record Taken (r : Turned) : Type 0 where
@@ -394,7 +395,7 @@ module _ (t : Terms) (number : List ℕ → ℕ) (law : Lawful t number) (o : Or
         others = λ s'' ne. let d : s.serial ≡ s'' → ⊥ = λ e. ne (same ∙ e) in rw (other-turn s'' (note_of t p s r) log d) (runs.others s'' d);
       },
     )
-    left-holds log p s m r c runs (Ended report) (ok, latest, order, sized, same) = (
+    left-holds log p s m r c runs (Ended report left) (ok, latest, order, sized, same) = (
       c,
       record {
         each = λ s''. elim (cases_eq s.serial s'') [
@@ -498,7 +499,7 @@ pub history-agrees : (t : Terms) (number : List ℕ → ℕ) → Lawful t number
 history-agrees t number law o log w r at =
     agrees t number law o (λ s n. (at s n).0) log w
     (inv t number law o (λ s n. (at s n).0) log w r
-    (λ x h. every_map _ _ (λ y all a al. (all a al).0) (hearings_of x.fate.heard) ((at x.serial x.number).2 x h refl refl)))
+    (λ x h. every_map _ _ (λ y all a al. (all a al).0) (listed x.fate.heard) ((at x.serial x.number).2 x h refl refl)))
 
 module _ (t : Terms) (number : List ℕ → ℕ) (law : Lawful t number) where
   -- What leads on is a history too, so it agrees.

@@ -13,15 +13,15 @@ use Rattle.sender.specs.declared.values.Base.{Base}
 use Rattle.sender.specs.declared.values.Session.{Session}
 use Rattle.sender.specs.declared.values.Outcome.{Outcome}
 use Rattle.sender.specs.declared.values.Outcome.TheVariants.{Delivered, NotDelivered, Unknown}
-use Rattle.sender.specs.declared.values.Stepped.{Stepped}
-use Rattle.sender.specs.declared.values.Stepped.TheVariants.{On, Ended}
+use Rattle.sender.specs.Steps.{Stepped}
+use Rattle.sender.specs.declared.values.Next.TheVariants.{On, Ended}
 use Rattle.sender.specs.Steps.{counted, again, next_fragment, end_of, retry_of, acked_of, step_of}
 use Rattle.receiver.specs.declared.state.Last.{Last}
 use Rattle.receiver.specs.declared.state.State.{State}
 use Rattle.air.specs.declared.fate.Alteration.{Alteration}
 use Rattle.air.specs.declared.fate.Fate.{Fate}
 use Rattle.air.specs.declared.fate.Hearing.{Hearing}
-use Rattle.agreement.specs.Turns.{hearings_of}
+use Rattle.air.specs.Few.{listed}
 use Rattle.agreement.specs.Histories.{Message, Turn, turned, History, Origin, report_in, Every}
 use Rattle.agreement.specs.Agreement.{Any, Within, started_in, handed_up_in, turns_of, settles, Unaltered, Through, Calm, OneOfEach}
 use Rattle.agreement.proofs.Ties.{Lawful, Sending, reach, Sized, LastBelow, Touched, Untouched, LastOk, PostAck, PostLost, CodeOk, Clean}
@@ -98,7 +98,7 @@ module _ (t : Terms) (number : List ℕ → ℕ) (law : Lawful t number) (o : Or
   -- What a turn comes to.
   abbrev pub Comes : Session → List ℕ → State → List ℕ → History → Stepped → Type 0
   Comes s m r store log (On s') = Live s' m r store log × (s'.serial ≡ s.serial)
-  Comes s m r store log (Ended report) =
+  Comes s m r store log (Ended report left) =
       SessionOk t o.limit o.room s.serial (record { serial = s.serial; octets = m } ∷ []) (turns_of s.serial log)
       × LastBelow (suc s.serial) r.last × Within (handed_up_in log) (started_in log) × Sized r.blocks × (report.serial ≡ s.serial)
 
@@ -126,12 +126,12 @@ module _ (t : Terms) (number : List ℕ → ℕ) (law : Lawful t number) (o : Or
     older = turns_of s.serial log
 
     abbrev Fine : Type 0
-    Fine = TurnFine t number law own peer own_small peer_small s.serial m (count_of t (length m)) s.number live.sending live.opened.high s.blocks live.fits (pos s.serial s.number) (hearings_of fate.heard) code r
+    Fine = TurnFine t number law own peer own_small peer_small s.serial m (count_of t (length m)) s.number live.sending live.opened.high s.blocks live.fits (pos s.serial s.number) (listed fate.heard) code r
 
     abbrev Quiet : Hearing → Type 0
     Quiet h = (x : Alteration) → Marked t number law own peer own_small peer_small s.serial m (count_of t (length m)) s.number live.sending live.opened.high s.blocks live.fits h x → ⊥
 
-    module _ (follows : fate.wait ≡ false → length (hearings_of fate.heard) ≤ 1 → Every Quiet (hearings_of fate.heard) → reach piece ≤ o.room
+    module _ (follows : fate.wait ≡ false → length (listed fate.heard) ≤ 1 → Every Quiet (listed fate.heard) → reach piece ≤ o.room
         → Clean t number s.serial m piece s.blocks r₀.phase r₀.blocks → Fine) where
       all : (stepped : Stepped) → turns_of s.serial (turned (turn_by stepped) ∷ log) ≡ turn_by stepped ∷ older
       all stepped = own_turn s.serial (turn_by stepped) log refl
@@ -145,8 +145,8 @@ module _ (t : Terms) (number : List ℕ → ℕ) (law : Lawful t number) (o : Or
           → Fine × (row rest : List Turn) × (older ≡ row ++ rest) × (length row ≡ s.used) × Every (λ x. Through t x → ⊥) row
       fine stepped room calm =
           let g = live.going room calm.1 in
-          let quiet : Every Quiet (hearings_of fate.heard) =
-          every_map (Unaltered t (turn_by stepped)) Quiet (λ h un x y. un x (record { marked = y.0; there = y.1; inside = y.2; good = y.3; changes = y.4 })) (hearings_of fate.heard) calm.0.unaltered in
+          let quiet : Every Quiet (listed fate.heard) =
+          every_map (Unaltered t (turn_by stepped)) Quiet (λ h un x y. un x (record { marked = y.0; there = y.1; inside = y.2; good = y.3; changes = y.4 })) (listed fate.heard) calm.0.unaltered in
           (follows calm.0.no_wait calm.0.unrepeated quiet (within-stream room) g.0, g.1, g.2, g.3, g.4, g.5)
 
       acked : (stepped : Stepped) → Fine → Through t (turn_by stepped) → code ≡ Some Ack

@@ -19,7 +19,8 @@ use Rattle.air.specs.declared.fate.Alteration.{Alteration}
 use Rattle.air.specs.declared.fate.Fate.{Fate}
 use Rattle.air.specs.declared.fate.Hearing.{Hearing}
 use Rattle.air.specs.Fates.{clear, silent}
-use Rattle.agreement.specs.Turns.{Pair, Turned, hearings_of, turn_of}
+use Rattle.air.specs.Few.{listed}
+use Rattle.agreement.specs.Turns.{Pair, Turned, turn_of}
 use Rattle.agreement.specs.Histories.{Message, Turn, started, turned, History, Origin, report_in, note_of, left_by, with_base, Every, Octets, fresh, start, turn}
 use Rattle.agreement.specs.Agreement.{Has, Altered, AtOneOctet}
 use Rattle.agreement.specs.Instances.{OfAll, ComesTo, Speaks}
@@ -42,11 +43,11 @@ none-altered t x [] e = tt
 none-altered t x (h ∷ hs) e = ((λ a al. clash (let z = sym e.0 ∙ al.marked in cc)), none-altered t x hs e.1)
 
 -- A history whose only turn is unaltered.
-at-one-octet : (t : Terms) (x : Turn) (m : Message) → Every (λ h. h.alteration ≡ None) (hearings_of x.fate.heard) → AtOneOctet t (turned x ∷ (started m ∷ []))
-at-one-octet t x m quiet s n = (0, 0, λ y h _ _. none-altered t y (hearings_of y.fate.heard) (same y h))
+at-one-octet : (t : Terms) (x : Turn) (m : Message) → Every (λ h. h.alteration ≡ None) (listed x.fate.heard) → AtOneOctet t (turned x ∷ (started m ∷ []))
+at-one-octet t x m quiet s n = (0, 0, λ y h _ _. none-altered t y (listed y.fate.heard) (same y h))
   where
-    same : (y : Turn) → Has y (x ∷ []) → Every (λ h. h.alteration ≡ None) (hearings_of y.fate.heard)
-    same y (inl e) = subst (λ (z : Turn). Every (λ h. h.alteration ≡ None) (hearings_of z.fate.heard)) (sym e) quiet
+    same : (y : Turn) → Has y (x ∷ []) → Every (λ h. h.alteration ≡ None) (listed y.fate.heard)
+    same y (inl e) = subst (λ (z : Turn). Every (λ h. h.alteration ≡ None) (listed z.fate.heard)) (sym e) quiet
     same y (inr e) = absurd e
 
 -- A pair with retry limit 0, first serial 7 and a store of 5 octets, whose every turn has one fate.
@@ -66,7 +67,7 @@ abbrev session : List ℕ → Session
 session m = record { serial = 7; length = length m; number = 0; blocks = All; used = 0; packets = 0 }
 
 -- One message, one turn, one report.
-comes-to : (t : Terms) (number : List ℕ → ℕ) (fate : Fate) (m : List ℕ) (outcome : Outcome) → Octets m → Every (λ h. h.alteration ≡ None) (hearings_of fate.heard)
+comes-to : (t : Terms) (number : List ℕ → ℕ) (fate : Fate) (m : List ℕ) (outcome : Outcome) → Octets m → Every (λ h. h.alteration ≡ None) (listed fate.heard)
     → start_of t base (length m) ≡ Ok (later, session m)
     → report_by (turn_of t number (with_base later (pair fate)) (session m) m) ≡ Some (record { serial = 7; outcome = outcome; packets = 1 }) → ComesTo outcome t number
 comes-to t number fate m outcome octets quiet began ended =

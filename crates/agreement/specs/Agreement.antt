@@ -10,7 +10,7 @@ use Rattle.air.specs.declared.fate.Alteration.{Alteration}
 use Rattle.air.specs.declared.fate.Fate.{Fate}
 use Rattle.air.specs.declared.fate.Hearing.{Hearing}
 use Rattle.damage.specs.Damage.{comes_bad}
-use Rattle.agreement.specs.Turns.{hearings_of}
+use Rattle.air.specs.Few.{listed}
 use Rattle.agreement.specs.Histories.{Message, Turn, Event, refused, started, turned, History, World, Origin, Every, Reached}
 
 -- Words of lists
@@ -117,12 +117,12 @@ abbrev pub AtOneOctet : Terms → History → Type 0
 AtOneOctet t log =
     (s number : ℕ) → (block place : ℕ)
     × ((x : Turn) → Has x (turns_in log) → x.serial ≡ s → x.number ≡ number
-    → Every (λ h. (a : Alteration) → Altered t x h a → (slice_index x.blocks a.«record» ≡ block) × (a.place ≡ place)) (hearings_of x.fate.heard))
+    → Every (λ h. (a : Alteration) → Altered t x h a → (slice_index x.blocks a.«record» ≡ block) × (a.place ≡ place)) (listed x.fate.heard))
 
 -- A turn goes through: heard once, no record bad, none altered, the response heard.
 pub record Through (t : Terms) (x : Turn) : Type 0 where
   pub hearing : Hearing
-  pub once : hearings_of x.fate.heard ≡ hearing ∷ []
+  pub once : listed x.fate.heard ≡ hearing ∷ []
   pub none_bad : (i : ℕ) → i < length x.blocks → comes_bad hearing i ≡ false
   pub unaltered : Unaltered t x hearing
   pub replied : hearing.reply ≡ true
@@ -130,8 +130,8 @@ pub record Through (t : Terms) (x : Turn) : Type 0 where
 -- No wait runs out in it, and it is neither repeated nor altered.
 pub record Calm (t : Terms) (x : Turn) : Type 0 where
   pub no_wait : x.fate.wait ≡ false
-  pub unrepeated : length (hearings_of x.fate.heard) ≤ 1
-  pub unaltered : Every (Unaltered t x) (hearings_of x.fate.heard)
+  pub unrepeated : length (listed x.fate.heard) ≤ 1
+  pub unaltered : Every (Unaltered t x) (listed x.fate.heard)
 
 -- At least one of every R + 1 turns in a row goes through.
 abbrev pub OneOfEach : Terms → ℕ → List Turn → Type 0

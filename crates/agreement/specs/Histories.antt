@@ -7,8 +7,8 @@ use Rattle.packet.specs.Blocks.{carried}
 use Rattle.sender.specs.declared.values.Base.{Base}
 use Rattle.sender.specs.declared.values.Session.{Session}
 use Rattle.sender.specs.declared.values.Report.{Report}
-use Rattle.sender.specs.declared.values.Stepped.{Stepped}
-use Rattle.sender.specs.declared.values.Stepped.TheVariants.{On, Ended}
+use Rattle.sender.specs.Steps.{Stepped}
+use Rattle.sender.specs.declared.values.Next.TheVariants.{On, Ended}
 use Rattle.sender.specs.Steps.{fresh_of, start_of, block_count}
 use Rattle.receiver.specs.declared.state.State.{State}
 use Rattle.receiver.specs.Calls.{made_of}
@@ -58,7 +58,7 @@ message_of h = record { serial = h.up.serial; octets = h.octets }
 
 abbrev pub report_in : Stepped → Option Report
 report_in (On s) = None
-report_in (Ended report) = Some report
+report_in (Ended report left) = Some report
 
 -- What is written down of a turn.
 abbrev pub note_of : Terms → Pair → Session → Turned → Turn
@@ -75,7 +75,7 @@ note_of t p s r =
 
 abbrev pub left_by : Pair → List ℕ → Stepped → World
 left_by p message (On s) = within p s message
-left_by p message (Ended report) = between p
+left_by p message (Ended report left) = between p
 
 -- The sender goes on with this base.
 abbrev pub with_base : Base → Pair → Pair

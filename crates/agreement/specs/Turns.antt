@@ -6,7 +6,7 @@ use Rattle.packet.specs.declared.values.Code.{Code}
 use Rattle.packet.specs.declared.values.Route.{Route}
 use Rattle.sender.specs.declared.values.Base.{Base}
 use Rattle.sender.specs.declared.values.Session.{Session}
-use Rattle.sender.specs.declared.values.Stepped.{Stepped}
+use Rattle.sender.specs.Steps.{Stepped}
 use Rattle.sender.specs.Steps.{Put, put_of, admit_of, step_of}
 use Rattle.receiver.specs.declared.state.State.{State}
 use Rattle.receiver.specs.declared.state.Heard.{Heard}
@@ -14,8 +14,7 @@ use Rattle.receiver.specs.declared.state.HandUp.{HandUp}
 use Rattle.receiver.specs.Calls.{Called, call_of, expired, part_of}
 use Rattle.air.specs.declared.fate.Fate.{Fate}
 use Rattle.air.specs.declared.fate.Hearing.{Hearing}
-use Rattle.air.specs.declared.fate.Hearings.{Hearings}
-use Rattle.air.specs.declared.fate.Hearings.TheVariants.{Silent, Once, Twice, Thrice}
+use Rattle.air.specs.Few.{listed}
 use Rattle.air.specs.Fates.{tail}
 use Rattle.damage.specs.Damage.{damaged}
 
@@ -43,12 +42,6 @@ pub record Reception : Type 0 where
   pub store : List ℕ
   pub ups : List Handed
   pub response : Option (List ℕ)
-
-abbrev pub hearings_of : Hearings → List Hearing
-hearings_of Silent = []
-hearings_of (Once a) = a ∷ []
-hearings_of (Twice a b) = a ∷ (b ∷ [])
-hearings_of (Thrice a b c) = a ∷ (b ∷ (c ∷ []))
 
 abbrev pub handed_in : List ℕ → Option HandUp → List Handed → List Handed
 handed_in store None ups = ups
@@ -94,7 +87,7 @@ unheard wait p = record { state = waited wait p.state; store = p.store; ups = []
 
 -- What a packet with this fate brings to the receiver.
 abbrev pub reception_of : Terms → (List ℕ → ℕ) → Pair → List ℕ → Fate → Reception
-reception_of t number p packet fate = all_heard t number p.route packet (unheard fate.wait p) (hearings_of fate.heard)
+reception_of t number p packet fate = all_heard t number p.route packet (unheard fate.wait p) (listed fate.heard)
 
 -- Turning
 

@@ -3,7 +3,8 @@ ghost use Rattle.std.specs.Prelude.{◌≡◌, ℕ};
 ghost use Rattle.air.specs.declared.fate.Fate.{Fate};
 ghost use Rattle.air.specs.Fates.{tail, clear, scheduled};
 
-use crate::fate::{Fate, Hearing, Hearings};
+use crate::fate::{Fate, Hearing};
+use crate::few::UpToThree;
 
 pub trait Air {
     // The endless list of fates that it will answer.
@@ -25,7 +26,7 @@ impl Air for Clear {
     fn ask(&mut self) -> Fate {
         Fate {
             wait: false,
-            heard: Hearings::Once(Hearing {
+            heard: UpToThree::One(Hearing {
                 bad: 0,
                 alteration: None,
                 reply: true,
@@ -37,33 +38,28 @@ impl Air for Clear {
 // A lent list of fates, and then no hearing and no wait.
 #[derive(Drop)]
 pub struct Schedule<'a> {
+    // Those still to come.
     pub fates: &'a [Fate],
-    // How many of them are past.
-    pub past: usize,
 }
 
 impl<'a> Schedule<'a> {
     pub fn new(fates: &'a [Fate]) -> Schedule<'a>
-        ensures list { result.fates.now ≡ fates.now }
-        ensures past { result.past ≡ 0 }
+        ensures { result.fates.now ≡ fates.now }
     {
-        Schedule { fates, past: 0 }
+        Schedule { fates }
     }
 }
 
 impl<'a> Air for Schedule<'a> {
-    ghost fates = { λ s. scheduled s.fates.now s.past };
+    ghost fates = { λ s. scheduled s.fates.now };
 
     fn ask(&mut self) -> Fate {
-        if self.past < self.fates.len() {
-            let fate = self.fates[self.past];
-            self.past += 1;
-            fate
-        } else {
-            Fate {
-                wait: false,
-                heard: Hearings::Silent,
+        match self.fates {
+            [first, others @ ..] => {
+                self.fates = others;
+                *first
             }
+            [] => Fate::SILENT,
         }
     }
 }

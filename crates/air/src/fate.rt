@@ -1,4 +1,5 @@
 // The fate of one turn.
+use crate::few::UpToThree;
 
 // One octet of a good record altered: the record and the place in its block, both from 0, and what is XORed.
 #[derive(Clone, Copy, PartialEq, Eq, Debug)]
@@ -19,17 +20,19 @@ pub struct Hearing {
 }
 
 // The packet is heard up to three times.
-#[derive(Clone, Copy, PartialEq, Eq, Debug)]
-pub enum Hearings {
-    Silent,
-    Once(Hearing),
-    Twice(Hearing, Hearing),
-    Thrice(Hearing, Hearing, Hearing),
-}
+pub type Hearings = UpToThree<Hearing>;
 
 #[derive(Clone, Copy, PartialEq, Eq, Debug)]
 pub struct Fate {
     // Whether the receiver's wait runs out before the packet is heard.
     pub wait: bool,
     pub heard: Hearings,
+}
+
+impl Fate {
+    // No hearing and no wait.
+    pub const SILENT: Fate = Fate {
+        wait: false,
+        heard: UpToThree::Empty,
+    };
 }

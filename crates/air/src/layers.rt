@@ -5,6 +5,7 @@ ghost use Rattle.air.specs.Fates.{twice, repeated, faded};
 
 use crate::airs::Air;
 use crate::fate::{Fate, Hearings};
+use crate::few::UpToThree;
 
 // Each hearing twice in a row, the first three kept.
 #[derive(Drop)]
@@ -24,10 +25,10 @@ fn doubled(heard: Hearings) -> Hearings
     ensures { result ≡ twice heard }
 {
     match heard {
-        Hearings::Silent => Hearings::Silent,
-        Hearings::Once(a) => Hearings::Twice(a, a),
-        Hearings::Twice(a, b) => Hearings::Thrice(a, a, b),
-        Hearings::Thrice(a, b, _) => Hearings::Thrice(a, a, b),
+        UpToThree::Empty => UpToThree::Empty,
+        UpToThree::One(a) => UpToThree::Two(a, a),
+        UpToThree::Two(a, b) => UpToThree::Three(a, a, b),
+        UpToThree::Three(a, b, _) => UpToThree::Three(a, a, b),
     }
 }
 
@@ -37,8 +38,8 @@ impl<B: Air> Air for Repeater<B> {
     fn ask(&mut self) -> Fate {
         let fate = self.below.ask();
         Fate {
-            wait: fate.wait,
             heard: doubled(fate.heard),
+            ..fate
         }
     }
 }
@@ -80,8 +81,8 @@ impl<B: Air> Air for Fade<B> {
         self.past += 1;
         if self.from <= self.past {
             Fate {
-                wait: fate.wait,
-                heard: Hearings::Silent,
+                heard: UpToThree::Empty,
+                ..fate
             }
         } else {
             fate

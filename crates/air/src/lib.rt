@@ -3,4 +3,5 @@
 
 pub mod airs;
 pub mod fate;
+pub mod few;
 pub mod layers;

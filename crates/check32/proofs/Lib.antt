@@ -1,3 +1,2 @@
 -- The lemmas of the checks.
-pub mod Parts
 pub mod HighOctet

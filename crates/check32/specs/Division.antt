@@ -1,6 +1,6 @@
 -- The polynomial check: the octets as one row of bits, high bit first, divided by the generator; the register holds the remainder.
 use Rattle.std.specs.Prelude.{ℕ, zero, suc, ◌-◌, ◌*◌, ◌%◌, ◌^◌, cond, List, bit_xor, nat_lt}
-use Rattle.check32.specs.Reading.{read_on}
+use Rattle.std.specs.List.{fold}
 
 -- the generator without its highest term
 abbrev pub generator : ℕ
@@ -25,7 +25,7 @@ octet_step register octet = bit_steps 8 (bit_xor register (octet % 256 * 2 ^ 24)
 
 -- the number of the octets to come, from a register
 abbrev pub polynomial_from : ℕ → List ℕ → ℕ
-polynomial_from register octets = read_on octet_step register octets
+polynomial_from register octets = fold octet_step register octets
 
 -- the polynomial number of a list of octets: the last register as it stands
 abbrev pub polynomial_of : List ℕ → ℕ

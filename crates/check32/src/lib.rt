@@ -1,14 +1,18 @@
-// The 32-bit check as an interface with its one-octet law, and two checks that keep it.
+// The 32-bit check as an interface with its one-octet law, and two checks that keep it, alike but for their step.
 #![tactic(auto)]
 
 ghost use Rattle.std.specs.Prelude.{◌≡◌, ℕ, ◌^◌, ◌<◌, List, [], ◌++◌, length, ◌≢◌, slice_index, slice_set};
 
+mod name;
 mod polynomial;
+mod register;
 mod sum;
 mod table;
 
-pub use polynomial::Polynomial;
-pub use sum::Sum;
+pub use name::{CheckName, UnknownCheck};
+pub use polynomial::{Division, Polynomial};
+pub use register::{Register, Step};
+pub use sum::{Addition, Sum};
 
 // A check reads octets part by part, and gives the number of all of them, wherever the parts end.
 pub trait Check: Sized {

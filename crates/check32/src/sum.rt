@@ -1,36 +1,28 @@
 // The sum check: the octets added modulo 2^32.
-ghost use Rattle.check32.specs.Addition.{sum_from, sum_of, add_step};
-ghost use Rattle.std.proofs.Common.{lit<};
+ghost use Rattle.check32.specs.Addition.{add_step};
 ghost use Rattle.check32.specs.Adding.{faithful-add};
-ghost use Rattle.check32.specs.OneOctet.{read_small, one-octet};
+ghost use Rattle.std.proofs.Common.{lit<};
 
-use crate::Check;
+use crate::register::{Register, Step};
 
-#[derive(Drop)]
-pub struct Sum {
-    total: u32,
-}
+// One octet is added.
+#[derive(Clone, Copy)]
+pub struct Addition;
 
-impl Check for Sum {
-    ghost number = { sum_of };
+pub type Sum = Register<Addition>;
 
-    ghost after = { λ s. sum_from s.total };
+impl Step for Addition {
+    const START: u32 = 0;
 
-    ghost small = { read_small add_step faithful-add 0 (lit< tt) };
+    ghost START = { 0 };
 
-    ghost single = { one-octet add_step faithful-add 0 (lit< tt) };
+    ghost step = { add_step };
 
-    fn start() -> Sum {
-        Sum { total: 0 }
-    }
+    ghost fits = { lit< tt };
 
-    fn update(&mut self, part: &[u8]) {
-        for octet in part {
-            self.total = self.total.wrapping_add(u32::from(*octet));
-        }
-    }
+    ghost faithful = { faithful-add };
 
-    fn finish(self) -> u32 {
-        self.total
+    fn next(register: u32, octet: u8) -> u32 {
+        register.wrapping_add(u32::from(octet))
     }
 }

@@ -1,5 +1,5 @@
 -- How long a full packet is, and that writing it leaves it at the front of the buffer.
-use Rattle.std.proofs.Common.{◌≡◌, ℕ, zero, suc, ◌+◌, ◌*◌, ◌≤◌, eqb, leb, List, length, take, drop, IfSome, Some, Ok, filter, Option, Result, sym, refl, ap, ◌∙◌, subst, suc-mul, mul-le-mul, zero-mul, arith}
+use Rattle.std.proofs.Common.{◌≡◌, ℕ, zero, suc, ◌+◌, ◌*◌, ◌≤◌, eqb, leb, List, length, take, drop, Some, Ok, filter, Result, sym, refl, ap, ◌∙◌, suc-mul, mul-le-mul, zero-mul, arith}
 use Rattle.std.proofs.lemmas.List.{length-append, take_at}
 use Rattle.std.proofs.lemmas.Bool.{cond-true, eq-eqb, le-leb}
 use Rattle.std.specs.List.{range_with_len}
@@ -7,7 +7,7 @@ use Rattle.std.specs.Option.{option_map}
 use Rattle.std.specs.Result.{result_ok}
 use Rattle.fault.specs.declared.EndFault.{EndFault}
 use Rattle.fragment.specs.Carriers.{Terms}
-use Rattle.fragment.specs.Cutting.{Piece}
+use Rattle.fragment.specs.Cutting.{Piece, fragment_at}
 use Rattle.fragment.specs.Laws.{data_in}
 use Rattle.fragment.specs.Streams.{stream_of, four_octets}
 use Rattle.packet.specs.Blocks.{carries, carried}
@@ -16,6 +16,9 @@ use Rattle.packet.specs.Layout.{header_octets, header_for, records_octets, packe
 use Rattle.packet.specs.Octets.{over}
 use Rattle.packet.specs.declared.values.Blocks.TheVariants.{All}
 use Rattle.packet.specs.declared.values.Route.{Route}
+use Rattle.cut.specs.Lines.{packet_at}
+use Rattle.cut.specs.declared.arguments.Order.{Order}
+use Rattle.cut.proofs.Pieces.{cut-message}
 use Rattle.packet.proofs.Sealed.{length-block, length_part, length-covered}
 
 -- A full packet carries every block.
@@ -65,12 +68,19 @@ module _ (t : Terms) (number : List ℕ → ℕ) (route : Route) (serial : ℕ) 
         ∙ cond-true (leb (packet_length f.block (length (carried All f.blocks))) (length buffer)) _ _ (le-leb _ _ (let s = short in omega arith))
 
     -- The octets that are said to be written are the packet.
-    pub packet-in-front : option_map (λ n. take n after) (result_ok r) ≡ Some (packet_octets number route f (stream_of serial message) All)
+    packet-in-front : option_map (λ n. take n after) (result_ok r) ≡ Some (packet_octets number route f (stream_of serial message) All)
     packet-in-front =
         let whole : List ℕ = packet_octets number route f (stream_of serial message) All in
         ap (λ (w : Written EndFault). option_map (λ n. take n w.buffer) (result_ok w.answer)) done
         ∙ ap (λ x. Some x) (take_at whole (drop (0 + length whole) buffer) _ length-packet)
 
-    pub packet-short : IfSome (result_ok r) (λ n. n ≤ 378)
-    packet-short =
-        subst (λ (o : Option ℕ). IfSome o (λ n. n ≤ 378)) (sym (ap (λ (w : Written EndFault). result_ok w.answer) done)) short
+-- The packet of a fragment that was cut, written into a buffer long enough.
+pub cut-packet : (t : Terms) (number : List ℕ → ℕ) (order : Order) (message : List ℕ) (n : ℕ) (f : Piece) (buffer : List ℕ)
+    → Some f ≡ fragment_at t (length message) n
+    → f.offset + f.octets ≤ f.message + 4 → f.blocks * f.block ≡ f.octets + f.pad + 4 → f.blocks ≤ 16 → f.block ≤ 20 → length buffer ≡ 378
+    → (r : Result ℕ EndFault) (after : List ℕ) → written r after ≡ written_of t number order.route order.serial f All message buffer
+    → option_map (λ k. take k after) (result_ok r) ≡ packet_at t number order message n
+cut-packet t number order message n f buffer made inside image few narrow room r after e =
+    let lent : length message ≡ f.message = sym (cut-message t (length message) n f (sym made)) in
+    packet-in-front t number order.route order.serial f message buffer lent inside image few narrow (omega arith) r after e
+    ∙ ap (option_map (λ p. packet_octets number order.route p (stream_of order.serial message) All)) made

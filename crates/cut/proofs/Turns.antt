@@ -1,17 +1,18 @@
 -- One fragment more is cut, and all are.
-use Rattle.std.proofs.Common.{◌≡◌, ℕ, suc, ◌-◌, ◌<◌, ◌≤◌, Bool, true, false, ◌&&◌, List, ◌++◌, is_some, sym, refl, ap, ◌∙◌, append_assoc, append-nil, arith}
+use Rattle.std.proofs.Common.{◌≡◌, ℕ, suc, ◌-◌, ◌<◌, ◌≤◌, List, [], ◌++◌, Some, None, Option, sym, refl, ap, ◌∙◌, append_assoc, append-nil, arith}
 use Rattle.fragment.specs.Carriers.{Terms}
 use Rattle.cut.specs.declared.arguments.Order.{Order}
-use Rattle.cut.specs.Joining.{or_nothing}
-use Rattle.cut.specs.Lines.{packet_at, line_of, data_back, lines_from, joined_from, whole_from}
+use Rattle.cut.specs.Lines.{packet_at, line_of, data_back, both, lines_from, joined_from}
 
-and_assoc : (a b c : Bool) → ((a && b) && c) ≡ (a && (b && c))
-and_assoc true b c = refl
-and_assoc false b c = refl
+both_assoc : (a b c : Option (List ℕ)) → both (both a b) c ≡ both a (both b c)
+both_assoc None b c = refl
+both_assoc (Some a) None c = refl
+both_assoc (Some a) (Some b) None = refl
+both_assoc (Some a) (Some b) (Some c) = ap (λ l. Some l) (append_assoc a b c)
 
-and-true : (a : Bool) → (a && true) ≡ a
-and-true true = refl
-and-true false = refl
+both-nil : (a : Option (List ℕ)) → both a (Some []) ≡ a
+both-nil None = refl
+both-nil (Some a) = ap (λ l. Some l) (append-nil a)
 
 module _ (t : Terms) (number : List ℕ → ℕ) (order : Order) (message : List ℕ) (n : ℕ) where
   module _ (some : 0 < n) where
@@ -25,29 +26,20 @@ module _ (t : Terms) (number : List ℕ → ℕ) (order : Order) (message : List
         ∙ append_assoc text (line_of (packet_at t number order message (n - 1))) (lines_from t number order message (n - 1))
         ∙ ap (λ m. text ++ lines_from t number order message m) (sym one_more) ∙ inv
 
-    pub joined-more : (stream after all : List ℕ) → after ≡ stream ++ or_nothing (data_back t number (packet_at t number order message (n - 1)))
-        → stream ++ joined_from t number order message n ≡ all → after ++ joined_from t number order message (n - 1) ≡ all
-    joined-more stream after all e inv =
-        ap (λ l. l ++ joined_from t number order message (n - 1)) e
-        ∙ append_assoc stream (or_nothing (data_back t number (packet_at t number order message (n - 1)))) (joined_from t number order message (n - 1))
-        ∙ ap (λ m. stream ++ joined_from t number order message m) (sym one_more) ∙ inv
-
-    pub whole-more : (whole some_data all : Bool) → some_data ≡ is_some (data_back t number (packet_at t number order message (n - 1)))
-        → (whole && whole_from t number order message n) ≡ all → ((whole && some_data) && whole_from t number order message (n - 1)) ≡ all
-    whole-more whole some_data all e inv =
-        ap (λ b. (whole && b) && whole_from t number order message (n - 1)) e
-        ∙ and_assoc whole (is_some (data_back t number (packet_at t number order message (n - 1)))) (whole_from t number order message (n - 1))
-        ∙ ap (λ m. whole && whole_from t number order message m) (sym one_more) ∙ inv
+    pub joined_more : (stream piece after all : Option (List ℕ)) → after ≡ both stream piece
+        → piece ≡ data_back t number (packet_at t number order message (n - 1))
+        → both stream (joined_from t number order message n) ≡ all → both after (joined_from t number order message (n - 1)) ≡ all
+    joined_more stream piece after all a e inv =
+        ap (λ s. both s (joined_from t number order message (n - 1))) (a ∙ ap (both stream) e)
+        ∙ both_assoc stream (data_back t number (packet_at t number order message (n - 1))) (joined_from t number order message (n - 1))
+        ∙ ap (λ m. both stream (joined_from t number order message m)) (sym one_more) ∙ inv
 
   module _ (none : n ≤ 0) where
     is_none : n ≡ 0
     is_none = omega arith
 
-    pub lines-all : (text all : List ℕ) → text ++ lines_from t number order message n ≡ all → text ≡ all
-    lines-all text all inv = sym (append-nil text) ∙ ap (λ m. text ++ lines_from t number order message m) (sym is_none) ∙ inv
+    pub lines_all : (text all : List ℕ) → text ++ lines_from t number order message n ≡ all → text ≡ all
+    lines_all text all inv = sym (append-nil text) ∙ ap (λ m. text ++ lines_from t number order message m) (sym is_none) ∙ inv
 
-    pub joined-all : (stream all : List ℕ) → stream ++ joined_from t number order message n ≡ all → stream ≡ all
-    joined-all stream all inv = sym (append-nil stream) ∙ ap (λ m. stream ++ joined_from t number order message m) (sym is_none) ∙ inv
-
-    pub whole-all : (whole all : Bool) → (whole && whole_from t number order message n) ≡ all → whole ≡ all
-    whole-all whole all inv = sym (and-true whole) ∙ ap (λ m. whole && whole_from t number order message m) (sym is_none) ∙ inv
+    pub joined_all : (stream all : Option (List ℕ)) → both stream (joined_from t number order message n) ≡ all → stream ≡ all
+    joined_all stream all inv = sym (both-nil stream) ∙ ap (λ m. both stream (joined_from t number order message m)) (sym is_none) ∙ inv

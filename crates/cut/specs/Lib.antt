@@ -1,4 +1,3 @@
-pub mod Names
 pub mod Joining
 pub mod Lines
 pub mod Outcomes

@@ -1,5 +1,5 @@
 -- The lines of a message's packets, and what joining the packets gives.
-use Rattle.std.specs.Prelude.{ℕ, zero, suc, Bool, true, ◌&&◌, List, [], ◌∷◌, ◌++◌, length, is_some, Some, None, Option}
+use Rattle.std.specs.Prelude.{ℕ, zero, suc, List, [], ◌∷◌, ◌++◌, length, Some, None, Option}
 use Rattle.std.specs.Option.{option_map}
 use Rattle.fragment.specs.Carriers.{Terms}
 use Rattle.fragment.specs.Cutting.{fragment_at}
@@ -8,7 +8,7 @@ use Rattle.hex_digits.specs.Digits.{hex_of}
 use Rattle.packet.specs.Layout.{packet_octets}
 use Rattle.packet.specs.declared.values.Blocks.TheVariants.{All}
 use Rattle.cut.specs.declared.arguments.Order.{Order}
-use Rattle.cut.specs.Joining.{packet_data, or_nothing}
+use Rattle.cut.specs.Joining.{packet_data}
 
 -- The full packet of the fragment that `n` others follow.
 abbrev pub packet_at : Terms → (List ℕ → ℕ) → Order → List ℕ → ℕ → Option (List ℕ)
@@ -25,17 +25,18 @@ abbrev pub data_back : Terms → (List ℕ → ℕ) → Option (List ℕ) → Op
 data_back t number None = None
 data_back t number (Some octets) = packet_data t number octets
 
--- The lines, the joined data and whether each packet has data, of the last `count` fragments in sending order.
+-- One piece of a stream behind another, or none where either is missing.
+abbrev pub both : Option (List ℕ) → Option (List ℕ) → Option (List ℕ)
+both (Some front) (Some back) = Some (front ++ back)
+both (Some front) None = None
+both None back = None
+
+-- The lines of the last `count` fragments in sending order, and their data, if each packet has data.
 abbrev pub lines_from : Terms → (List ℕ → ℕ) → Order → List ℕ → ℕ → List ℕ
 lines_from t number order message zero = []
 lines_from t number order message (suc n) = line_of (packet_at t number order message n) ++ lines_from t number order message n
 
-abbrev pub joined_from : Terms → (List ℕ → ℕ) → Order → List ℕ → ℕ → List ℕ
-joined_from t number order message zero = []
+abbrev pub joined_from : Terms → (List ℕ → ℕ) → Order → List ℕ → ℕ → Option (List ℕ)
+joined_from t number order message zero = Some []
 joined_from t number order message (suc n) =
-    or_nothing (data_back t number (packet_at t number order message n)) ++ joined_from t number order message n
-
-abbrev pub whole_from : Terms → (List ℕ → ℕ) → Order → List ℕ → ℕ → Bool
-whole_from t number order message zero = true
-whole_from t number order message (suc n) =
-    is_some (data_back t number (packet_at t number order message n)) && whole_from t number order message n
+    both (data_back t number (packet_at t number order message n)) (joined_from t number order message n)

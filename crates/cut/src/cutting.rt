@@ -1,100 +1,108 @@
 // Cutting a message: the line of each packet, and what joining the packets gives.
-ghost use Rattle.std.specs.Prelude.{◌≡◌, ◌≤◌, ◌++◌, length, take, is_some, IfSome, IfOk, OnOk};
-ghost use Rattle.fragment.specs.Cutting.{fragments_of};
+ghost use Rattle.std.specs.Prelude.{◌≡◌, ◌++◌, length, string_bytes, vec_items, IfOk, OnOk};
 ghost use Rattle.std.specs.Option.{option_map};
-ghost use Rattle.cut.specs.Joining.{or_nothing};
-ghost use Rattle.cut.specs.Lines.{packet_at, line_of, data_back};
+ghost use Rattle.fragment.specs.Cutting.{fragments_of};
+ghost use Rattle.cut.specs.Lines.{packet_at, line_of, data_back, both};
 ghost use Rattle.cut.specs.Outcomes.{lines_of, joined_of, outcome_of};
 
 use crate::arguments::Order;
-use crate::joining::{holds, join};
+use crate::joining::{holds, packet_data};
 use crate::outcome::Outcome;
 use check32::Check;
-use fragment::carrier::Carrier;
+use fragment::carrier::{Carrier, DataCall, MOST_BLOCKS};
 use fragment::cutting::fragment_count;
 use fragment::piece::Fragment;
-use hex_digits::push_hex;
+use hex_digits::Hex;
 use packet::values::Blocks;
-use packet::write::write_packet;
+use packet::write::{HEADER_OCTETS, RECORD_OCTETS, write_packet};
 use std::alloc::{AllocError, Global};
 
-// The octets of the longest packet: a header, and 16 records of a block of 20 octets.
-const LONGEST: usize = 378;
+// The octets of the longest packet: a header, and as many records as a fragment has blocks, of the longest.
+const LONGEST: usize = HEADER_OCTETS + MOST_BLOCKS * (DataCall::BLOCK + RECORD_OCTETS);
 
-// Writes the full packet of fragment `number`, and answers its length.
-fn put_packet<C: Carrier, K: Check>(
+// The full packet of fragment `number`, or none where the message has no such fragment.
+fn packet_of<C: Carrier, K: Check>(
+    heap: Global,
     order: Order,
     message: &[u8],
     number: u16,
-    packet: &mut [u8],
-) -> Option<usize>
-    requires { 378 ≤ length packet.old }
-    ensures bound { IfSome result (λ n. n ≤ 378) }
-    ensures value { option_map (λ n. take n packet.new) result ≡ packet_at C.Carrier.terms K.Check.number order message.now number }
+) -> Result<Option<Vec<u8>>, AllocError>
+    ensures { IfOk result (λ packet. option_map vec_items packet ≡ packet_at C.Carrier.terms K.Check.number order message.now number) }
 {
-    let fragment = Fragment::<C>::cut(message.len(), number)?;
-    write_packet::<C, K>(
+    let Some(fragment) = Fragment::<C>::cut(message.len(), number) else {
+        return Ok(None);
+    };
+    let mut packet = vec![in heap; 0; LONGEST]?;
+    let Ok(length) = write_packet::<C, K>(
         order.route,
         order.serial,
         &fragment,
         Blocks::All,
         message,
-        packet,
-    )
-    .ok()
+        &mut packet,
+    ) else {
+        return Ok(None);
+    };
+    packet.truncate(length);
+    Ok(Some(packet))
 }
 
-// Writes the line of fragment `number`, appends the data of its packet to a stream, and answers whether there was any.
+// Writes the line of fragment `number`, and answers the data of its packet.
 fn put_fragment<C: Carrier, K: Check>(
-    heap: Global,
     order: Order,
     message: &[u8],
     number: u16,
-    text: &mut Vec<u8>,
-    stream: &mut Vec<u8>,
-) -> Result<bool, AllocError>
-    ensures line { OnOk result (text.new.items ≡ text.old.items ++ line_of (packet_at C.Carrier.terms K.Check.number order message.now number)) }
-    ensures value { IfOk result (λ joined. joined ≡ is_some (data_back C.Carrier.terms K.Check.number (packet_at C.Carrier.terms K.Check.number order message.now number))) }
-    ensures after { OnOk result (stream.new.items ≡ stream.old.items ++ or_nothing (data_back C.Carrier.terms K.Check.number (packet_at C.Carrier.terms K.Check.number order message.now number))) }
+    text: &mut String,
+) -> Result<Option<Vec<u8>>, AllocError>
+    ensures line { OnOk result (string_bytes text.new ≡ string_bytes text.old ++ line_of (packet_at C.Carrier.terms K.Check.number order message.now number)) }
+    ensures value { IfOk result (λ joined. option_map vec_items joined ≡ data_back C.Carrier.terms K.Check.number (packet_at C.Carrier.terms K.Check.number order message.now number)) }
 {
-    let mut packet = [0; LONGEST];
-    let Some(length) = put_packet::<C, K>(order, message, number, &mut packet) else {
-        return Ok(false);
+    let heap = *text.allocator();
+    let Some(packet) = packet_of::<C, K>(heap, order, message, number)? else {
+        return Ok(None);
     };
-    push_hex(text, &packet[0..length])?;
-    text.push(b'\n')?;
-    join::<C, K>(heap, &packet[0..length], stream)
+    write!(text, "{}\n", Hex(&packet))?;
+    packet_data::<C, K>(heap, &packet)
 }
 
-// What joining comes to: the stream, and whether each packet had data.
-fn outcome_of(serial: u32, message: &[u8], whole: bool, stream: &[u8]) -> Outcome
-    ensures { result ≡ joined_of serial message.now whole stream.now }
+// One piece of a stream behind another, or none where either is missing.
+fn both(front: Option<Vec<u8>>, back: Option<Vec<u8>>) -> Result<Option<Vec<u8>>, AllocError>
+    ensures { IfOk result (λ stream. option_map vec_items stream ≡ both (option_map vec_items front) (option_map vec_items back)) }
 {
-    if whole && holds(stream, serial, message) {
-        Outcome::Joined(serial, message.len())
-    } else {
-        Outcome::NotJoined
+    let (Some(mut stream), Some(back)) = (front, back) else {
+        return Ok(None);
+    };
+    stream.extend_from_slice(&back)?;
+    Ok(Some(stream))
+}
+
+// What joining comes to: the stream, if each packet had data.
+fn outcome_of(serial: u32, message: &[u8], stream: Option<&[u8]>) -> Outcome
+    ensures { result ≡ joined_of serial message.now (option_map (λ s. s.now) stream.entry) }
+{
+    match stream {
+        Some(stream) if holds(stream, serial, message) => Outcome::Joined(serial, message.len()),
+        _ => Outcome::NotJoined,
     }
 }
 
 // Writes the line of each packet of a message, and answers what joining the packets comes to.
 pub(crate) fn cut<C: Carrier, K: Check>(
-    heap: Global,
     order: Order,
     message: &[u8],
-    text: &mut Vec<u8>,
+    text: &mut String,
 ) -> Result<Outcome, AllocError>
-    ensures lines { OnOk result (text.new.items ≡ text.old.items ++ lines_of C.Carrier.terms K.Check.number order message.now (fragments_of C.Carrier.terms (length message.now))) }
+    ensures lines { OnOk result (string_bytes text.new ≡ string_bytes text.old ++ lines_of C.Carrier.terms K.Check.number order message.now (fragments_of C.Carrier.terms (length message.now))) }
     ensures value { IfOk result (λ outcome. outcome ≡ outcome_of C.Carrier.terms K.Check.number order message.now (fragments_of C.Carrier.terms (length message.now))) }
 {
     let count = match fragment_count::<C>(message.len()) {
         Ok(count) => count,
-        Err(fault) => return Ok(Outcome::Refused(fault.number())),
+        Err(fault) => return Ok(Outcome::Refused(fault)),
     };
-    let mut stream = Vec::new(heap);
-    let mut whole = true;
+    let mut stream = Some(Vec::new(*text.allocator()));
     for number in (0..count as u16).rev() {
-        whole &= put_fragment::<C, K>(heap, order, message, number, text, &mut stream)?;
+        let data = put_fragment::<C, K>(order, message, number, text)?;
+        stream = both(stream, data)?;
     }
-    Ok(outcome_of(order.serial, message, whole, &stream))
+    Ok(outcome_of(order.serial, message, stream.as_deref()))
 }

@@ -1,71 +1,62 @@
 // Joining: the data of packets, and the serial and message that they make.
-ghost use Rattle.std.specs.Prelude.{◌≡◌, ◌++◌, is_some, IfOk, OnOk};
-ghost use Rattle.fragment.specs.Streams.{split_of};
+ghost use Rattle.std.specs.Prelude.{◌≡◌, IfOk, vec_items};
 ghost use Rattle.std.specs.Option.{option_map};
-ghost use Rattle.cut.specs.Joining.{seen_by, blocks_in, data_of, packet_data, or_nothing, holding};
+ghost use Rattle.fragment.specs.Streams.{split_of};
+ghost use Rattle.packet.specs.Views.{seen_by};
+ghost use Rattle.cut.specs.Joining.{image_of, data_of, packet_data, holding};
 
 use check32::{Check, number_of};
 use fragment::carrier::{CHECK_OCTETS, Carrier};
-use fragment::stream::split_stream;
+use fragment::stream::{Joined, split_stream};
 use packet::packets::Packet;
 use packet::read::read_packet;
 use std::alloc::{AllocError, Global};
 
-// Appends the blocks of a packet's good records to an image.
-fn push_blocks(packet: &Packet, image: &mut Vec<u8>) -> Result<(), AllocError>
-    ensures { OnOk result (image.new.items ≡ image.old.items ++ blocks_in (seen_by packet.now) packet.now.header.records) }
+// The blocks of a packet's good records, joined.
+fn image_of(heap: Global, packet: &Packet) -> Result<Vec<u8>, AllocError>
+    ensures { IfOk result (λ image. image.items ≡ image_of (seen_by packet.now)) }
 {
-    for i in 0..usize::from(packet.header.records) {
-        if let Some(block) = packet.block(i) {
-            image.extend_from_slice(block.octets)?;
-        }
-    }
-    Ok(())
+    (0..packet.header.records)
+        .flat_map(|i| packet
+            .block(usize::from(i))
+            .map(|block| block.octets)
+            .unwrap_or(&[]))
+        .copied()
+        .collect(heap)
 }
 
 // The data of an image, or none where its check is wrong.
 fn data_of<K: Check>(image: &[u8], pad: u8) -> Option<&[u8]>
     ensures { option_map (λ x. x.now) result ≡ data_of K.Check.number image.now pad }
 {
-    let pad = usize::from(pad);
-    if image.len() < pad + CHECK_OCTETS {
+    let (covered, check) = image.split_last_chunk::<CHECK_OCTETS>()?;
+    let end = covered.len().checked_sub(usize::from(pad))?;
+    if u32::from_be_bytes(*check) != number_of::<K>(covered) {
         return None;
     }
-    let (covered, check) = image.split_at(image.len() - CHECK_OCTETS);
-    let number = u32::from_be_bytes([check[0], check[1], check[2], check[3]]);
-    if number != number_of::<K>(covered) {
-        return None;
-    }
-    Some(&image[0..image.len() - CHECK_OCTETS - pad])
+    Some(&covered[..end])
 }
 
-// Appends a packet's data to a stream, and answers whether there was any.
-pub(crate) fn join<C: Carrier, K: Check>(
+// The data of a packet, or none where the octets are no packet or its check is wrong.
+pub(crate) fn packet_data<C: Carrier, K: Check>(
     heap: Global,
     octets: &[u8],
-    stream: &mut Vec<u8>,
-) -> Result<bool, AllocError>
-    ensures value { IfOk result (λ joined. joined ≡ is_some (packet_data C.Carrier.terms K.Check.number octets.now)) }
-    ensures after { OnOk result (stream.new.items ≡ stream.old.items ++ or_nothing (packet_data C.Carrier.terms K.Check.number octets.now)) }
+) -> Result<Option<Vec<u8>>, AllocError>
+    ensures { IfOk result (λ joined. option_map vec_items joined ≡ packet_data C.Carrier.terms K.Check.number octets.now) }
 {
     let Ok(packet) = read_packet::<C>(octets) else {
-        return Ok(false);
+        return Ok(None);
     };
-    let mut image = Vec::new(heap);
-    push_blocks(&packet, &mut image)?;
-    let Some(joined) = data_of::<K>(&image, packet.header.pad) else {
-        return Ok(false);
-    };
-    stream.extend_from_slice(joined)?;
-    Ok(true)
+    let image = image_of(heap, &packet)?;
+    match data_of::<K>(&image, packet.header.pad) {
+        Some(data) => Ok(Some(data.to_vec(heap)?)),
+        None => Ok(None),
+    }
 }
 
 // Whether a stream holds this serial and this message.
 pub(crate) fn holds(stream: &[u8], serial: u32, message: &[u8]) -> bool
     ensures { result ≡ holding (split_of stream.now) serial message.now }
 {
-    match split_stream(stream) {
-        Some(joined) => joined.serial == serial && joined.message == message,
-        None => false,
-    }
+    split_stream(stream) == Some(Joined { serial, message })
 }

@@ -1,9 +1,10 @@
 // Cuts the message on standard input into packets, prints them in hexadecimal, and joins what reading them gives.
 #![tactic(auto)]
 
-ghost use Rattle.std.specs.Prelude.{◌≡◌, ◌++◌, length, IfOk, OnOk};
+ghost use Rattle.std.specs.Prelude.{◌≡◌, ◌++◌, length, string_bytes, IfOk, OnOk};
+ghost use Rattle.check32.specs.Names.{number_by};
 ghost use Rattle.fragment.specs.Cutting.{fragments_of};
-ghost use Rattle.cut.specs.Names.{terms_of, number_by};
+ghost use Rattle.fragment.specs.Names.{terms_of};
 ghost use Rattle.cut.specs.Outcomes.{lines_of, outcome_of};
 
 mod arguments;
@@ -12,12 +13,13 @@ mod joining;
 mod outcome;
 
 use anyhow::anyhow;
-use arguments::{CarrierName, CheckName, Order, order_of};
-use check32::{Polynomial, Sum};
+use arguments::{Order, order_of};
+use check32::{CheckName, Polynomial, Sum};
 use cutting::cut;
 use fragment::carrier::{DataCall, VoiceAlongCall};
+use fragment::name::CarrierName;
 use outcome::Outcome;
-use std::alloc::{AllocError, Global};
+use std::alloc::AllocError;
 use std::io::Read;
 use std::{env, io};
 
@@ -29,42 +31,33 @@ fn main(rt: HostRuntime) -> anyhow::Result<()> {
     let heap = rt.alloc();
     let mut message = Vec::new(heap);
     rt.stdin().read_to_end(&mut message)?;
-    let mut text = Vec::new(heap);
-    let outcome = obey(heap, order, &message, &mut text)?;
-    rt.write_all(&text)?;
+    let mut text = String::new(heap);
+    let outcome = obey(order, &message, &mut text)?;
+    rt.write_all(text.as_bytes())?;
     rt.println(outcome)?;
     Ok(())
 }
 
 // The order on the command line.
 fn ordered(rt: &HostRuntime) -> io::Result<Option<Order>> {
-    let mut words = Vec::new(rt.alloc());
-    for word in env::args(rt)? {
-        words.push(word)?;
-    }
+    let words: Vec<String> = env::args(rt)?.collect(rt.alloc())?;
     Ok(order_of(&words))
 }
 
 // Cuts a message at the carrier and the check that were ordered.
-fn obey(
-    heap: Global,
-    order: Order,
-    message: &[u8],
-    text: &mut Vec<u8>,
-) -> Result<Outcome, AllocError>
-    ensures lines { OnOk result (text.new.items ≡ text.old.items ++ lines_of (terms_of order.carrier) (number_by order.check) order message.now (fragments_of (terms_of order.carrier) (length message.now))) }
+fn obey(order: Order, message: &[u8], text: &mut String) -> Result<Outcome, AllocError>
+    ensures lines { OnOk result (string_bytes text.new ≡ string_bytes text.old ++ lines_of (terms_of order.carrier) (number_by order.check) order message.now (fragments_of (terms_of order.carrier) (length message.now))) }
     ensures value { IfOk result (λ outcome. outcome ≡ outcome_of (terms_of order.carrier) (number_by order.check) order message.now (fragments_of (terms_of order.carrier) (length message.now))) }
 {
+    // A match, since each arm is an instance of a generic function, which no closure can be.
     match (order.carrier, order.check) {
         (CarrierName::Data, CheckName::Polynomial) => cut::<DataCall, Polynomial>(
-            heap, order, message, text,
+            order, message, text,
         ),
-        (CarrierName::Data, CheckName::Sum) => cut::<DataCall, Sum>(heap, order, message, text),
+        (CarrierName::Data, CheckName::Sum) => cut::<DataCall, Sum>(order, message, text),
         (CarrierName::Voice, CheckName::Polynomial) => cut::<VoiceAlongCall, Polynomial>(
-            heap, order, message, text,
+            order, message, text,
         ),
-        (CarrierName::Voice, CheckName::Sum) => cut::<VoiceAlongCall, Sum>(
-            heap, order, message, text,
-        ),
+        (CarrierName::Voice, CheckName::Sum) => cut::<VoiceAlongCall, Sum>(order, message, text),
     }
 }

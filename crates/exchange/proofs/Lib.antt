@@ -1,4 +1,3 @@
-pub mod Chaining
 pub mod Receiving
 pub mod Reaching
 pub mod Claiming

@@ -1,30 +1,37 @@
 -- What a pair holds, without carrier and check, and what its calls give.
-use Rattle.std.specs.Prelude.{ℕ, Bool, true, false, cond, List, [], ◌∷◌, length, Some, None, Ok, Err, Option, Result, nat_le}
+use Rattle.std.specs.Prelude.{ℕ, cond, List, [], ◌∷◌, ◌++◌, length, Ok, Err, Option, Result, nat_le}
 use Rattle.fault.specs.declared.EndFault.{EndFault}
 use Rattle.packet.specs.declared.values.Route.{Route}
 use Rattle.packet.specs.Octets.{over}
 use Rattle.packet.specs.Reading.{and_then}
 use Rattle.sender.specs.declared.values.Base.{Base}
 use Rattle.sender.specs.declared.values.Session.{Session}
-use Rattle.sender.specs.declared.values.Stepped.{Stepped}
-use Rattle.sender.specs.declared.values.Stepped.TheVariants.{On, Ended}
-use Rattle.sender.specs.declared.states.Next as sender
+use Rattle.sender.specs.Steps.{Stepped}
+use Rattle.sender.specs.declared.values.Next.{Next}
+use Rattle.sender.specs.declared.values.Next.TheVariants.{On, Ended}
+use Rattle.sender.specs.declared.states.Ready.{Ready}
+use Rattle.sender.specs.declared.values.Course.{Course}
+use Rattle.sender.specs.declared.states.Refusal.{Refusal}
 use Rattle.sender.specs.Steps.{fresh_of}
 use Rattle.sender.specs.Views.{next_in, next_base}
 use Rattle.receiver.specs.declared.state.State.{State}
 use Rattle.receiver.specs.declared.receiver.Receiver.{Receiver}
 use Rattle.receiver.specs.Calls.{made_of}
 use Rattle.air.specs.declared.fate.Fate.{Fate}
+use Rattle.air.specs.declared.few.UpToThree.{UpToThree}
+use Rattle.air.specs.declared.few.UpToThree.TheVariants.{Empty, One, Two, Three}
 use Rattle.agreement.specs.Turns.{Pair, Handed, Reception}
 use Rattle.agreement.specs.Turns as turns
-use Rattle.exchange.specs.declared.pair.Exchange.{Exchange}
-use Rattle.exchange.specs.declared.pair.Transfer.{Transfer}
-use Rattle.exchange.specs.declared.pair.Refused.{Refused}
+use Rattle.exchange.specs.declared.pair.Ends.{Ends}
 use Rattle.exchange.specs.declared.pair.Up.{Up}
-use Rattle.exchange.specs.declared.pair.Ups.{Ups}
-use Rattle.exchange.specs.declared.pair.Next.{Next}
-use Rattle.exchange.specs.declared.pair.Next.TheVariants as next
 use Rattle.exchange.specs.declared.pair.Turned.{Turned}
+
+-- Both ends between sessions, and within one.
+abbrev pub Rested : Type 0 → Type 0 → Type 0
+Rested C K = Ends (Ready C K) (Receiver C K)
+
+abbrev pub Going : Type 0 → Type 0 → Type 0
+Going C K = Ends Course (Receiver C K)
 
 -- Making
 
@@ -41,38 +48,25 @@ fresh_pair_of own peer retries first store =
     Ok (record { base = base; route = record { source = peer; destination = own }; state = state })))
 
 -- What making a pair gave.
-abbrev pub fresh_pair_in : {C K : Type 0} → Result (Exchange C K) EndFault → Result FreshPair EndFault
+abbrev pub fresh_pair_in : {C K : Type 0} → Result (Rested C K) EndFault → Result FreshPair EndFault
 fresh_pair_in (Ok y) = Ok (record { base = y.sender.base; route = y.receiver.route; state = y.receiver.state })
 fresh_pair_in (Err fault) = Err fault
 
 -- Starting
 
 -- What a start gave.
-abbrev pub start_in : {C K : Type 0} → Result (Transfer C K) (Refused (Exchange C K)) → Result (Base × Session) EndFault
+abbrev pub start_in : {C K : Type 0} → Result (Going C K) (Refusal (Rested C K)) → Result (Base × Session) EndFault
 start_in (Ok y) = Ok (y.sender.base, y.sender.session)
 start_in (Err y) = Err y.fault
 
 -- Hearing
 
-abbrev pub add_up : Option Up → List Up → List Up
-add_up None ups = ups
-add_up (Some up) ups = up ∷ ups
-
--- Empty places come last.
-abbrev pub packed_by : Option Up → Option Up → Option Up → Bool
-packed_by None None None = true
-packed_by None None (Some c) = false
-packed_by None (Some b) c = false
-packed_by (Some a) None None = true
-packed_by (Some a) None (Some c) = false
-packed_by (Some a) (Some b) c = true
-
-abbrev pub packed : Ups → Bool
-packed u = packed_by u.first u.second u.third
-
 -- What the hearings of a turn handed up, newest first.
-abbrev pub ups_in : Ups → List Up
-ups_in u = add_up u.third (add_up u.second (add_up u.first []))
+abbrev pub ups_in : UpToThree Up → List Up
+ups_in Empty = []
+ups_in (One a) = a ∷ []
+ups_in (Two a b) = b ∷ (a ∷ [])
+ups_in (Three a b c) = c ∷ (b ∷ (a ∷ []))
 
 -- What is told of messages handed up: the serial, and how many octets.
 abbrev pub ups_of : List Handed → List Up
@@ -103,6 +97,10 @@ pub record Seen : Type 0 where
 abbrev pub seen : State → List ℕ → List Up → Option (List ℕ) → List ℕ → Seen
 seen state store ups response panel = record { state = state; store = store; ups = ups; response = response; panel = panel }
 
+-- What was handed up before stands behind.
+abbrev pub behind : List Up → Seen → Seen
+behind older x = seen x.state x.store (x.ups ++ older) x.response x.panel
+
 abbrev pub seen_of : Reception → List ℕ → Seen
 seen_of x panel = seen x.state x.store (ups_of x.ups) x.response (shown_of x.ups panel)
 
@@ -115,18 +113,18 @@ pub record Joined : Type 0 where
   pub state : State
   pub stepped : Stepped
 
-abbrev pub join_of : {C K : Type 0} → sender.Next C K → Receiver C K → Joined
+abbrev pub join_of : {C K : Type 0} → Next Course (Ready C K) → Receiver C K → Joined
 join_of stage y = record { base = next_base stage; route = y.route; state = y.state; stepped = next_in stage }
 
-abbrev pub joined_in : {C K : Type 0} → Next C K → Joined
-joined_in (next.On y) = record { base = y.sender.base; route = y.receiver.route; state = y.receiver.state; stepped = On y.sender.session }
-joined_in (next.Ended report y) = record { base = y.sender.base; route = y.receiver.route; state = y.receiver.state; stepped = Ended report }
+abbrev pub joined_in : {C K : Type 0} → Next (Going C K) (Rested C K) → Joined
+joined_in (On y) = record { base = y.sender.base; route = y.receiver.route; state = y.receiver.state; stepped = On y.sender.session }
+joined_in (Ended report y) = record { base = y.sender.base; route = y.receiver.route; state = y.receiver.state; stepped = Ended report tt }
 
 -- An exchange, and a transfer, with what is lent to it.
-abbrev pub rest_of : {C K : Type 0} → Exchange C K → List ℕ → (ℕ → Fate) → Pair
+abbrev pub rest_of : {C K : Type 0} → Rested C K → List ℕ → (ℕ → Fate) → Pair
 rest_of y store fates = record { base = y.sender.base; route = y.receiver.route; state = y.receiver.state; store = store; fates = fates }
 
-abbrev pub pair_of : {C K : Type 0} → Transfer C K → List ℕ → (ℕ → Fate) → Pair
+abbrev pub pair_of : {C K : Type 0} → Going C K → List ℕ → (ℕ → Fate) → Pair
 pair_of y store fates = record { base = y.sender.base; route = y.receiver.route; state = y.receiver.state; store = store; fates = fates }
 
 -- What a turn leaves to its caller: both ends, what became of the session, and what was handed up, newest first.
@@ -144,7 +142,7 @@ brief_with j ups store fates =
     record { pair = record { base = j.base; route = j.route; state = j.state; store = store; fates = fates }; stepped = j.stepped; ups = ups }
 
 -- What a turn gave, with the store and the fates after it.
-abbrev pub turn_in : {C K : Type 0} → Result (Turned C K) (Refused (Transfer C K)) → List ℕ → (ℕ → Fate) → Result Brief EndFault
+abbrev pub turn_in : {C K : Type 0} → Result (Turned C K) (Refusal (Going C K)) → List ℕ → (ℕ → Fate) → Result Brief EndFault
 turn_in (Ok y) store fates = Ok (brief_with (joined_in y.next) (ups_in y.ups) store fates)
 turn_in (Err y) store fates = Err y.fault
 

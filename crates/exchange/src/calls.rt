@@ -1,12 +1,12 @@
 // The calls of a pair.
-ghost use Rattle.std.specs.Prelude.{◌≡◌, true, length, IfOk, IfErr, OnErr};
+ghost use Rattle.std.specs.Prelude.{◌≡◌, length, IfOk, IfErr, OnErr};
 ghost use Rattle.sender.specs.Steps.{start_of};
 ghost use Rattle.agreement.specs.Turns.{turn_of};
 ghost use Rattle.exchange.specs.Claims.{FreshReached, StartAgrees, TurnAgrees};
-ghost use Rattle.exchange.specs.Views.{fresh_pair_of, fresh_pair_in, start_in, pair_of, packed, turn_in, brief_of, panel_of};
+ghost use Rattle.exchange.specs.Views.{fresh_pair_of, fresh_pair_in, start_in, pair_of, turn_in, brief_of, panel_of};
 
-use crate::hearing::{LONGEST, undergo};
-use crate::pair::{Exchange, Refused, Transfer, Turned};
+use crate::hearing::{LONGEST, Listener};
+use crate::pair::{Ends, Exchange, Transfer, Turned, let_go};
 use crate::settling::{join, settle};
 use air::airs::Air;
 use check32::Check;
@@ -30,35 +30,31 @@ impl<C: Carrier, K: Check> Exchange<C, K> {
     {
         let receiver = Receiver::<C, K>::new(peer, own, store)?;
         match Ready::<C, K>::new(own, peer, retries, first) {
-            Ok(sender) => Ok(Exchange { sender, receiver }),
+            Ok(sender) => Ok(Ends { sender, receiver }),
             Err(fault) => {
-                let Receiver {
-                    route: _,
-                    state: _,
-                    kind: _,
-                } = receiver;
+                let_go(receiver);
                 Err(fault)
             }
         }
     }
 
     // Opens a session for a message, with the next serial.
-    pub fn start(self, message: &[u8]) -> Result<Transfer<C, K>, Refused<Exchange<C, K>>>
+    pub fn start(self, message: &[u8]) -> Result<Transfer<C, K>, Refusal<Exchange<C, K>>>
         ensures value { start_in result ≡ start_of C.Carrier.terms self.sender.base (length message.now) }
         ensures kept { IfOk result (λ y. y.receiver ≡ self.receiver) }
-        ensures back { IfErr result (λ y. y.exchange ≡ self) }
+        ensures back { IfErr result (λ y. y.kept ≡ self) }
         ensures agrees { StartAgrees C.Carrier.terms K.Check.number self message.now result }
     {
-        let Exchange { sender, receiver } = self;
+        let Ends { sender, receiver } = self;
         match sender.start(message) {
-            Ok(sender) => Ok(Transfer { sender, receiver }),
-            Err(refusal) => {
-                let Refusal { sender, fault } = refusal;
-                Err(Refused {
-                    exchange: Exchange { sender, receiver },
-                    fault,
-                })
-            }
+            Ok(sender) => Ok(Ends { sender, receiver }),
+            Err(Refusal { kept, fault }) => Err(Refusal {
+                kept: Ends {
+                    sender: kept,
+                    receiver,
+                },
+                fault,
+            }),
         }
     }
 
@@ -66,14 +62,8 @@ impl<C: Carrier, K: Check> Exchange<C, K> {
     pub fn retire(self) -> Base
         ensures { result ≡ self.sender.base }
     {
-        let Exchange { sender, receiver } = self;
-        let base = sender.retire();
-        let Receiver {
-            route: _,
-            state: _,
-            kind: _,
-        } = receiver;
-        base
+        let ready = self.into_sender();
+        ready.retire()
     }
 }
 
@@ -86,53 +76,38 @@ impl<C: Carrier, K: Check> Transfer<C, K> {
         store: &mut [u8],
         panel: &mut [u8],
         air: &mut F,
-    ) -> Result<Turned<C, K>, Refused<Transfer<C, K>>>
+    ) -> Result<Turned<C, K>, Refusal<Transfer<C, K>>>
         ensures value { turn_in result store.new (F.Air.fates air.new) ≡ brief_of (turn_of C.Carrier.terms K.Check.number (pair_of self store.old (F.Air.fates air.old)) self.sender.session message.now) }
-        ensures packed { IfOk result (λ y. packed y.ups ≡ true) }
         ensures panel { panel.new ≡ panel_of (turn_of C.Carrier.terms K.Check.number (pair_of self store.old (F.Air.fates air.old)) self.sender.session message.now) panel.old }
-        ensures back { IfErr result (λ y. y.exchange ≡ self) }
+        ensures back { IfErr result (λ y. y.kept ≡ self) }
         ensures untouched { OnErr result ((store.new ≡ store.old) × (panel.new ≡ panel.old) × (air.new ≡ air.old)) }
         ensures agrees { TurnAgrees C.Carrier.terms K.Check.number self message.now store.old (F.Air.fates air.old) result store.new (F.Air.fates air.new) }
     {
-        self.take_turn(message, store, panel, air)
-    }
-
-    // What the turn does; `turn` adds what it means for every history.
-    fn take_turn<F: Air>(
-        self,
-        message: &[u8],
-        store: &mut [u8],
-        panel: &mut [u8],
-        air: &mut F,
-    ) -> Result<Turned<C, K>, Refused<Transfer<C, K>>>
-        ensures value { turn_in result store.new (F.Air.fates air.new) ≡ brief_of (turn_of C.Carrier.terms K.Check.number (pair_of self store.old (F.Air.fates air.old)) self.sender.session message.now) }
-        ensures packed { IfOk result (λ y. packed y.ups ≡ true) }
-        ensures panel { panel.new ≡ panel_of (turn_of C.Carrier.terms K.Check.number (pair_of self store.old (F.Air.fates air.old)) self.sender.session message.now) panel.old }
-        ensures back { IfErr result (λ y. y.exchange ≡ self) }
-        ensures untouched { OnErr result ((store.new ≡ store.old) × (panel.new ≡ panel.old) × (air.new ≡ air.old)) }
-    {
-        let Transfer {
-            sender,
-            mut receiver,
-        } = self;
+        let Ends { sender, receiver } = self;
         let mut packet = [0; LONGEST];
         match sender.put_out(message, &mut packet) {
-            Ok(sent) => {
-                let (sender, octets) = sent;
-                let received = undergo(&mut receiver, store, panel, &packet[0..octets], air.ask());
-                let stage = settle(sender, received.response);
+            Ok((sender, octets)) => {
+                let mut listener = Listener {
+                    receiver,
+                    packet: &packet[0..octets],
+                };
+                let received = listener.undergo(store, panel, air.ask());
+                let Listener {
+                    receiver,
+                    packet: _,
+                } = listener;
                 Ok(Turned {
                     ups: received.ups,
-                    next: join(stage, receiver),
+                    next: join(settle(sender, received.response), receiver),
                 })
             }
-            Err(refusal) => {
-                let Refusal { sender, fault } = refusal;
-                Err(Refused {
-                    exchange: Transfer { sender, receiver },
-                    fault,
-                })
-            }
+            Err(Refusal { kept, fault }) => Err(Refusal {
+                kept: Ends {
+                    sender: kept,
+                    receiver,
+                },
+                fault,
+            }),
         }
     }
 
@@ -140,13 +115,7 @@ impl<C: Carrier, K: Check> Transfer<C, K> {
     pub fn retire(self) -> (Base, Session)
         ensures { result ≡ (self.sender.base, self.sender.session) }
     {
-        let Transfer { sender, receiver } = self;
-        let held = sender.retire();
-        let Receiver {
-            route: _,
-            state: _,
-            kind: _,
-        } = receiver;
-        held
+        let sending = self.into_sender();
+        sending.retire()
     }
 }

@@ -1,5 +1,5 @@
 -- The number, layer and octet place of each fault.
-use Rattle.std.specs.Prelude.{ℕ, List, codes}
+use Rattle.std.specs.Prelude.{ℕ, List, ◌++◌, codes, decimal}
 use Rattle.fault.specs.declared.Layer.{Layer}
 use Rattle.fault.specs.declared.Layer.TheVariants as layer
 use Rattle.fault.specs.declared.PacketFault.{PacketFault}
@@ -64,3 +64,13 @@ end_place Number = 6
 end_place Blocks = 8
 end_place SerialsUsed = 0
 end_place (Unfit place) = place
+
+-- A fault as it is printed: its number, its layer and its octet place.
+abbrev pub text_of : ℕ → Layer → ℕ → List ℕ
+text_of number layer place = decimal number ++ (codes " " ++ (layer_name layer ++ (codes " " ++ decimal place)))
+
+abbrev pub packet_text : PacketFault → List ℕ
+packet_text fault = text_of (packet_number fault) layer.Packet (packet_place fault)
+
+abbrev pub end_text : EndFault → List ℕ
+end_text fault = text_of (end_number fault) (end_layer fault) (end_place fault)

@@ -2,7 +2,7 @@
 #![tactic(auto)]
 
 ghost use Rattle.std.specs.Prelude.{◌≡◌, Some, codes};
-ghost use Rattle.fault.specs.Faults.{packet_number, packet_place, end_number, end_layer, end_place, layer_name};
+ghost use Rattle.fault.specs.Faults.{packet_number, packet_place, end_number, end_layer, end_place, layer_name, packet_text, end_text};
 ghost use Rattle.fault.specs.declared.EndFault.TheVariants.{Packet};
 ghost use Rattle.fault.specs.declared.Layer.TheVariants as layer;
 
@@ -94,6 +94,15 @@ impl PacketFault {
     }
 }
 
+// As "3 packet 7": number, layer and place.
+impl fmt::Display for PacketFault {
+    ghost output = { λ fault. Some (packet_text fault) };
+
+    fn fmt<W: fmt::Write>(&self, f: &mut fmt::Formatter<W>) -> fmt::Result {
+        write!(f, "{} {} {}", self.number(), Layer::Packet, self.place())
+    }
+}
+
 impl EndFault {
     pub fn number(&self) -> u8
         ensures { result ≡ end_number self.now }
@@ -130,6 +139,15 @@ impl EndFault {
             EndFault::Blocks => 8,
             _ => 0,
         }
+    }
+}
+
+// As "11 end 8".
+impl fmt::Display for EndFault {
+    ghost output = { λ fault. Some (end_text fault) };
+
+    fn fmt<W: fmt::Write>(&self, f: &mut fmt::Formatter<W>) -> fmt::Result {
+        write!(f, "{} {} {}", self.number(), self.layer(), self.place())
     }
 }
 

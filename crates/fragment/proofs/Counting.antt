@@ -1,9 +1,8 @@
 -- The least number of parts, and where parts begin.
-use Rattle.std.proofs.Common.{◌≡◌, ℕ, zero, suc, ◌+◌, ◌-◌, ◌*◌, ◌/◌, ◌<◌, ◌≤◌, inl, inr, mod-lt, suc-mul, div-lt_iff_lt-mul, add-mul, mul-le-mul, div-add-mod', zero-mul, arith}
+use Rattle.std.proofs.Common.{◌≡◌, ℕ, zero, suc, ◌+◌, ◌-◌, ◌*◌, ◌/◌, ◌%◌, ◌<◌, ◌≤◌, min, inl, inr, mod-lt, suc-mul, div-lt_iff_lt-mul, add-mul, mul-le-mul, le_refl, div-add-mod', zero-mul, arith}
 use Rattle.std.proofs.lemmas.Bool.{cases_lt}
-use Rattle.fragment.specs.Carriers.{Terms, Sound}
-use Rattle.fragment.specs.Counts.{parts_of, Least, capacity}
-use Rattle.fragment.specs.Cutting.{greatest}
+use Rattle.std.proofs.lemmas.Grind.{div_ceil_times}
+use Rattle.fragment.specs.Counts.{parts_of, Least}
 
 pub parts-least : (size octets : ℕ) → 1 ≤ size → Least size octets (parts_of size octets)
 parts-least size octets h =
@@ -16,6 +15,20 @@ parts-least size octets h =
           let y : (octets + (size - 1)) / size < m + 1 = (div-lt_iff_lt-mul h).1 x in
           omega arith;
     }
+
+-- It is the quotient, rounded up.
+pub rounded-up : (size octets : ℕ) → 1 ≤ size → octets / size + min 1 (octets % size) ≡ parts_of size octets
+rounded-up size octets h =
+    let up : ℕ = octets / size + min 1 (octets % size) in
+    let parts : ℕ = parts_of size octets in
+    let near = div_ceil_times octets size h in
+    let l = parts-least size octets h in
+    let least : parts ≤ up = l.least up near.0 in
+    let more : up < parts + 1 = elim (cases_lt up (parts + 1)) [
+      | inl p ↦ p
+      | inr p ↦ (let past = mul-le-mul p (le_refl size) in let e = add-mul parts 1 size in absurd (omega (arith, l.holds)))
+    ] in
+    omega arith
 
 -- Each of the parts begins before the octets end.
 pub part-begins : {size octets n : ℕ} → Least size octets n → (index : ℕ) → index < n → index * size < octets
@@ -34,10 +47,3 @@ parts-some {size = size} {octets = octets} {n = n} l h = some n l.holds
     some : (k : ℕ) → octets ≤ k * size → 1 ≤ k
     some zero p = let z : zero * size ≡ 0 = zero-mul size in omega arith
     some (suc k) p = omega arith
-
-pub product-above : (a b c d : ℕ) → c ≤ a → d ≤ b → c * d ≤ a * b
-product-above a b c d h k = mul-le-mul h k
-
--- No carrier's longest message is longer than the data call's.
-pub greatest-bound : (t : Terms) → Sound t → greatest t ≤ 161788
-greatest-bound t s = omega (arith, product-above 512 316 t.most (capacity t) s.few_fragments (let h = s.few_octets in omega arith))

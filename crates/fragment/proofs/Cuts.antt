@@ -1,5 +1,5 @@
 -- Cutting loses nothing: every fragment is well cut, and the fragments in order are the stream.
-use Rattle.std.proofs.Common.{◌≡◌, ℕ, zero, suc, ◌+◌, ◌-◌, ◌*◌, ◌^◌, ◌<◌, ◌≤◌, min, false, ltb, List, ◌++◌, length, take, drop, Some, Ok, sym, ◌∙◌, inl, inr, zero-mul, arith}
+use Rattle.std.proofs.Common.{◌≡◌, ℕ, zero, suc, ◌+◌, ◌-◌, ◌*◌, ◌^◌, ◌<◌, ◌≤◌, min, false, ltb, List, ◌++◌, length, take, drop, Some, Ok, sym, ◌∙◌, inl, inr, mul-le-mul, zero-mul, arith}
 use native.Mathlib.Nat.{sub_self}
 use Rattle.std.proofs.lemmas.Nat.{mod-pow-add}
 use Rattle.std.proofs.lemmas.List.{take-append-drop, take_all, drop_all, drop-drop, length-drop}
@@ -10,7 +10,7 @@ use Rattle.fragment.specs.Counts.{Least, capacity}
 use Rattle.fragment.specs.Cutting.{greatest, count_of, fragments_of, octets_at, piece_at}
 use Rattle.fragment.specs.Streams.{four_at, stream_of, split_of}
 use Rattle.fragment.specs.Laws.{WellCut, Cuts, joined_from}
-use Rattle.fragment.proofs.Counting.{parts-least, part-begins, parts-some, product-above}
+use Rattle.fragment.proofs.Counting.{parts-least, part-begins, parts-some}
 
 -- A message that is not refused has some octets, at most the greatest number, and its count is the one worked out.
 pub count-is : (t : Terms) (m count : ℕ) → fragments_of t m ≡ Ok count → (count ≡ count_of t m) × (1 ≤ m) × (m ≤ greatest t)
@@ -26,7 +26,7 @@ count-least t s m = parts-least (capacity t) (m + 4) (let big = capacity-some t 
 -- It is no more than the carrier has.
 count_fits : (t : Terms) → Sound t → (m : ℕ) → m ≤ greatest t → count_of t m ≤ t.most
 count_fits t s m h =
-    let room = product-above t.most (capacity t) 1 12 s.some_fragments (capacity-some t s) in
+    let room = mul-le-mul s.some_fragments (capacity-some t s) in
     (count-least t s m).least t.most (omega arith)
 
 -- What the parts before the last leave fits the last one.

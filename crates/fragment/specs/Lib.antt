@@ -3,3 +3,4 @@ pub mod Counts
 pub mod Streams
 pub mod Cutting
 pub mod Laws
+pub mod Names

@@ -35,7 +35,7 @@ pub fn fragment_count<C: Carrier>(message: usize) -> Result<usize, EndFault>
     if message > C::fragment_limit() * capacity - SERIAL_OCTETS {
         return Err(EndFault::TooLong);
     }
-    Ok((message + SERIAL_OCTETS + (capacity - 1)) / capacity)
+    Ok((message + SERIAL_OCTETS).div_ceil(capacity))
 }
 
 impl<C: Carrier> Fragment<C> {
@@ -43,15 +43,9 @@ impl<C: Carrier> Fragment<C> {
     pub fn cut(message: usize, number: u16) -> Option<Fragment<C>>
         ensures { option_map piece_of result ≡ fragment_at C.Carrier.terms message number }
     {
-        let Ok(count) = fragment_count::<C>(message) else {
-            return None;
-        };
-        let follow = usize::from(number);
-        if follow >= count {
-            return None;
-        }
+        let count = fragment_count::<C>(message).ok()?;
+        let index = count.checked_sub(1 + usize::from(number))?;
         let capacity = capacity_of::<C>();
-        let index = count - 1 - follow;
         let offset = index * capacity;
         let octets = capacity.min(message + SERIAL_OCTETS - offset);
         let blocks = C::blocks_for(octets)?;

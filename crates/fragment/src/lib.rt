@@ -3,6 +3,7 @@
 
 pub mod carrier;
 pub mod cutting;
+pub mod name;
 pub mod piece;
 pub mod stream;
 mod table;

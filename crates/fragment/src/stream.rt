@@ -3,7 +3,7 @@ ghost use Rattle.std.specs.Prelude.{◌≡◌};
 ghost use Rattle.fragment.specs.Streams.{split_of, joined_of};
 
 // What a joined stream holds.
-#[derive(Drop)]
+#[derive(Clone, Copy, PartialEq, Eq, Debug)]
 pub struct Joined<'a> {
     pub serial: u32,
     pub message: &'a [u8],
@@ -13,12 +13,11 @@ pub struct Joined<'a> {
 pub fn split_stream(stream: &[u8]) -> Option<Joined<'_>>
     ensures { joined_of result ≡ split_of stream.now }
 {
-    if stream.len() < 4 {
+    let [a, b, c, d, message @ ..] = stream else {
         return None;
-    }
-    let serial = u32::from_be_bytes([stream[0], stream[1], stream[2], stream[3]]);
+    };
     Some(Joined {
-        serial,
-        message: &stream[4..],
+        serial: u32::from_be_bytes([*a, *b, *c, *d]),
+        message,
     })
 }

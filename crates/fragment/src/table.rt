@@ -1,4 +1,4 @@
-// The block counts of the data call, by the number of data octets.
+// The block counts of the data call, by the number of data octets. The rule is a table, and is compared once with the least number.
 ghost use Rattle.std.specs.Prelude.{◌≡◌};
 ghost use Rattle.fragment.specs.Carriers.{data_call};
 ghost use Rattle.fragment.specs.Counts.{blocks_for};
@@ -21,8 +21,6 @@ const BLOCKS: [u8; 317] = [
 pub(crate) fn data_call_blocks(octets: usize) -> Option<usize>
     ensures { result ≡ blocks_for data_call octets }
 {
-    if octets > 316 {
-        return None;
-    }
-    Some(BLOCKS[octets] as usize)
+    let blocks = BLOCKS.get(octets)?;
+    Some(usize::from(*blocks))
 }

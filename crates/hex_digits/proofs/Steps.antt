@@ -1,18 +1,10 @@
 -- One octet more, written or read.
-use Rattle.std.proofs.Common.{◌≡◌, ℕ, ◌+◌, ◌*◌, ◌/◌, ◌%◌, ◌<◌, ◌≤◌, List, [], ◌∷◌, ◌++◌, length, get_or, drop, Some, None, Option, sym, refl, ap, ◌∙◌, append_assoc, append-nil, arith}
-use Rattle.std.proofs.lemmas.List.{at_drop_more, at_drop_all}
+use Rattle.std.proofs.Common.{◌≡◌, ℕ, ◌+◌, ◌-◌, ◌*◌, ◌/◌, ◌%◌, ◌^◌, ◌<◌, false, List, [], ◌∷◌, ◌++◌, length, get_or, take, drop, Some, None, Option, sym, refl, ap, append_assoc, arith}
+use Rattle.std.proofs.lemmas.Fmt.{hex_byte}
+use Rattle.std.proofs.lemmas.List.{take_more}
+use Rattle.std.specs.Fmt.{digits, padded_integral, format_spec}
 use Rattle.std.specs.Option.{option_map}
 use Rattle.hex_digits.specs.Digits.{digit_of, value_of, hex_of, before, octets_of}
-
--- Two digits more behind a text, and one octet less to come.
-pub hex-more : (text octets : List ℕ) (i : ℕ) → i < length octets
-    → ((text ++ (digit_of (get_or octets i 0 / 16) ∷ [])) ++ (digit_of (get_or octets i 0 % 16) ∷ [])) ++ hex_of (drop (i + 1) octets)
-    ≡ text ++ hex_of (drop i octets)
-hex-more text octets i h = simp append_assoc (ap (λ more. text ++ more) (sym (at_drop_more hex_of octets i 0 h)))
-
--- No octet is to come.
-pub hex-all : (text octets : List ℕ) (i : ℕ) → length octets ≤ i → text ≡ text ++ hex_of (drop i octets)
-hex-all text octets i h = sym (ap (λ more. text ++ more) (at_drop_all hex_of octets i h) ∙ append-nil text)
 
 -- An octet goes from the front of those to come to the end of those before.
 moved : (front : List ℕ) (octet : ℕ) (more : Option (List ℕ))
@@ -29,3 +21,15 @@ pub octets-more : (front digits : List ℕ) (high low : ℕ) → Some high ≡ v
 octets-more front [] high low p q = absurd (not_none p)
 octets-more front (a ∷ []) high low p q = absurd (not_none q)
 octets-more front (a ∷ (b ∷ digits)) high low p q = rw (← p, ← q) (moved front (16 * high + low) (octets_of digits))
+
+-- The digits of one octet more, as a format writes them.
+hex-append : (front more : List ℕ) → hex_of (front ++ more) ≡ hex_of front ++ hex_of more
+hex-append [] more = refl
+hex-append (octet ∷ front) more =
+    ap (λ digits. digit_of (octet / 16) ∷ (digit_of (octet % 16) ∷ digits)) (hex-append front more)
+
+pub hex-next : (octets : List ℕ) (i : ℕ) → i < length octets → get_or octets i 0 < 256
+    → hex_of (take i octets) ++ padded_integral (format_spec 32 0 4 2 (2 ^ 64 - 1)) false [] (digits 16 false (get_or octets i 0))
+    ≡ hex_of (take (i + 1) octets)
+hex-next octets i h fits =
+    rw (hex_byte false (get_or octets i 0) fits, take_more octets i 0 h) (sym (hex-append (take i octets) (get_or octets i 0 ∷ [])))

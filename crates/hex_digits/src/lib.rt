@@ -6,6 +6,22 @@ ghost use Rattle.std.specs.Option.{option_map};
 ghost use Rattle.hex_digits.specs.Digits.{digit_of, value_of, hex_of, octets_of};
 
 use std::alloc::{AllocError, Global};
+use std::fmt;
+
+// Octets that are written as their digits.
+#[derive(Clone, Copy)]
+pub struct Hex<'a>(pub &'a [u8]);
+
+impl fmt::Display for Hex<'_> {
+    ghost output = { λ octets. Some (hex_of octets.0.now) };
+
+    fn fmt<W: fmt::Write>(&self, f: &mut fmt::Formatter<W>) -> fmt::Result {
+        for &octet in self.0 {
+            write!(f, "{octet:02x}")?;
+        }
+        Ok(())
+    }
+}
 
 // The digit of a number.
 fn digit_of(value: u8) -> u8

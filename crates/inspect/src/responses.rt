@@ -1,49 +1,45 @@
 // Responses in words.
-ghost use Rattle.std.specs.Prelude.{◌≡◌, ◌++◌, string_bytes, OnOk};
-ghost use Rattle.inspect.specs.Words.{blocks_in, code_words, answer_head, response_words};
+ghost use Rattle.std.specs.Prelude.{◌≡◌, ◌++◌, string_bytes, IfOk, OnOk};
+ghost use Rattle.inspect.specs.Words.{blocks_in, code_words, response_words};
 
+use crate::listed::Listed;
 use packet::values::{BlockSet, Code, Response};
-use std::alloc::AllocError;
+use std::alloc::{AllocError, Global};
 
-// Appends the blocks of a set, each behind a space.
-fn push_blocks(text: &mut String, set: BlockSet) -> Result<(), AllocError>
-    ensures { OnOk result (string_bytes text.new ≡ string_bytes text.old ++ blocks_in set 16) }
+// The blocks of a set.
+fn blocks_in(heap: Global, set: BlockSet) -> Result<Vec<u8>, AllocError>
+    ensures { IfOk result (λ blocks. blocks.items ≡ blocks_in set) }
 {
-    for j in 0u8..16 {
-        if set.contains(j) {
-            write!(text, " {j}")?;
-        }
-    }
-    Ok(())
+    (0u8..16).filter(|j| set.contains(*j)).collect(heap)
 }
 
 fn push_code(text: &mut String, code: Code) -> Result<(), AllocError>
     ensures { OnOk result (string_bytes text.new ≡ string_bytes text.old ++ code_words code) }
 {
     match code {
-        Code::Ack => write!(text, "ack"),
+        Code::Ack => text.push_str("ack"),
         Code::AckSelective(set) => {
-            write!(text, "selective")?;
-            push_blocks(text, set)
+            let blocks = blocks_in(*text.allocator(), set)?;
+            write!(text, "selective{}", Listed(&blocks))
         }
-        Code::FullRetry => write!(text, "full"),
-        Code::OutOfStep => write!(text, "out-of-step"),
+        Code::FullRetry => text.push_str("full"),
+        Code::OutOfStep => text.push_str("out-of-step"),
     }
-}
-
-fn push_head(text: &mut String, response: Response) -> Result<(), AllocError>
-    ensures { OnOk result (string_bytes text.new ≡ string_bytes text.old ++ answer_head response) }
-{
-    let source = response.route.source;
-    let destination = response.route.destination;
-    let number = response.number;
-    write!(text, "(response {source} {destination} {number} ")
 }
 
 pub(crate) fn push_response(text: &mut String, response: Response) -> Result<(), AllocError>
     ensures { OnOk result (string_bytes text.new ≡ string_bytes text.old ++ response_words response) }
 {
-    push_head(text, response)?;
-    push_code(text, response.code)?;
-    write!(text, ")\n")
+    let Response {
+        route,
+        number,
+        code,
+    } = response;
+    write!(
+        text,
+        "(response {} {} {number} ",
+        route.source, route.destination
+    )?;
+    push_code(text, code)?;
+    text.push_str(")\n")
 }

@@ -1,11 +1,9 @@
 -- Octets written into a buffer, one piece behind another.
-use Rattle.std.proofs.Common.{◌≡◌, ℕ, ◌+◌, ◌<◌, ◌≤◌, List, [], ◌∷◌, ◌++◌, length, get_or, take, drop, set, sym, refl, ap, ◌∙◌, ap₂, add-one, arith}
-use Rattle.std.proofs.lemmas.List.{append_assoc, length-append, length-take-le, length-drop, take_all, take_at, take_more, take-append-drop, drop_at, drop-drop, set_split}
+use Rattle.std.proofs.Common.{◌≡◌, ℕ, ◌+◌, ◌≤◌, List, [], ◌++◌, length, take, drop, sym, refl, ap, ◌∙◌, ap₂, arith}
+use Rattle.std.proofs.lemmas.List.{append_assoc, length-append, length-take-le, length-drop, take_all, take_at, take-append-drop, drop_at, drop-drop}
 use Rattle.std.proofs.lemmas.Slice.{put_mid-paste}
 use borrow.Rule.Slice.PartMut.{put_mid}
 use Rattle.packet.specs.Octets.{over}
-use Rattle.packet.specs.Images.{block_of}
-use Rattle.packet.specs.Layout.{record_octets}
 
 pub length_over : (place : ℕ) (xs b : List ℕ) → place + length xs ≤ length b → length (over place xs b) ≡ length b
 length_over place xs b h =
@@ -33,10 +31,6 @@ over-over place xs ys b h =
     ∙ append_assoc (take place b) xs (ys ++ drop (place + length (xs ++ ys)) b)
     ∙ ap (λ l. take place b ++ l) (sym (append_assoc xs ys (drop (place + length (xs ++ ys)) b)))
 
--- One octet is written.
-pub set-over : (place v : ℕ) (b : List ℕ) → place < length b → set b place v ≡ over place (v ∷ []) b
-set-over place v b h = set_split b place v h ∙ ap (λ n. take place b ++ v ∷ drop n b) (sym (add-one place))
-
 -- A part of the buffer is written whole.
 pub mid-over : (place k : ℕ) (b ys zs : List ℕ) → ys ≡ zs → length zs ≡ k → put_mid place k b ys ≡ over place zs b
 mid-over place k b ys zs e h =
@@ -44,24 +38,6 @@ mid-over place k b ys zs e h =
     ∙ ap (λ l. take place b ++ l ++ drop (place + length zs) b) (take_all (length zs) zs (omega arith))
     ∙ append_assoc (take place b) zs (drop (place + length zs) b)
 
--- One octet more of a list that is written octet by octet.
-pub over-more : (place i v : ℕ) (xs b : List ℕ) → place + length xs ≤ length b → i < length xs → v ≡ get_or xs i 0
-    → set (over place (take i xs) b) (place + i) v ≡ over place (take (i + 1) xs) b
-over-more place i v xs b h l e =
-    let n : length (take i xs) ≡ i = length-take-le i xs (omega arith) in
-    let long = length_over place (take i xs) b (omega arith) in
-    set-over (place + i) v (over place (take i xs) b) (omega arith)
-    ∙ ap (λ k. over (place + k) (v ∷ []) (over place (take i xs) b)) (sym n)
-    ∙ over-over place (take i xs) (v ∷ []) b (omega arith)
-    ∙ ap (λ ys. over place ys b) (ap (λ y. take i xs ++ y ∷ []) e ∙ sym (take_more xs i 0 l))
-
 -- Nothing written leaves the buffer as it is.
 pub over-nil : (place : ℕ) (b : List ℕ) → over place [] b ≡ b
 over-nil place b = ap (λ n. take place b ++ drop n b) (let e : place + 0 ≡ place = omega arith in e) ∙ take-append-drop place b
-
--- A block written behind the three octets of its record's front.
-pub record-over : (place size j j' frame quality : ℕ) (image b b' : List ℕ) → j' ≡ j → quality ≡ 0
-    → b' ≡ over place (j ∷ (frame ∷ (quality ∷ []))) b → place + 3 ≤ length b
-    → over (place + 3) (block_of size image j') b' ≡ over place (record_octets j frame (block_of size image j)) b
-record-over place size j j' frame quality image b b' ej eq e h =
-    rw (ej, e, eq) (over-over place (j ∷ (frame ∷ (0 ∷ []))) (block_of size image j) b h)

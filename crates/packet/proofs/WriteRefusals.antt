@@ -1,7 +1,6 @@
 -- When writing a packet refuses.
-use Rattle.std.proofs.Common.{◌≡◌, ℕ, zero, suc, ◌+◌, ◌/◌, ◌%◌, ◌^◌, ◌<◌, ◌≤◌, Bool, true, false, cond, not, eqb, ltb, leb, ◌⊎◌, ◌↔◌, List, length, Ok, Err, Result, sym, refl, ap, ◌∙◌, inl, inr, arith, pow_mono}
-use native.Mathlib.Nat.{div-eq_of_lt}
-use Rattle.std.proofs.lemmas.Bool.{cases_Bool, cases_eq, both_ways, not-true, not-false, and_parts, and_cases, cond-true, cond-false, eq-eqb, eqb-true, eqb-false, lt-leb, leb-false, ltb-true, ltb-false}
+use Rattle.std.proofs.Common.{◌≡◌, ℕ, ◌+◌, ◌/◌, ◌%◌, ◌^◌, ◌<◌, ◌≤◌, Bool, true, false, cond, not, eqb, ltb, leb, ◌⊎◌, ◌↔◌, List, length, Ok, Err, Result, sym, refl, ap, ◌∙◌, inl, inr, arith}
+use Rattle.std.proofs.lemmas.Bool.{cases_Bool, both_ways, not-true, not-false, and_parts, and_cases, cond-true, cond-false, eq-eqb, eqb-true, eqb-false, lt-leb, leb-false, ltb-true, ltb-false}
 use Rattle.std.proofs.lemmas.Nat.{pow_pos, shr-shr, le-div}
 use Rattle.fault.specs.declared.PacketFault.TheVariants.{Buffer, Message}
 use Rattle.fault.specs.declared.EndFault.{EndFault}
@@ -16,22 +15,11 @@ use Rattle.packet.specs.Blocks.{carried, fitting}
 use Rattle.packet.specs.Layout.{Written, packet_length, written, written_of}
 use Rattle.packet.specs.ReadBack.{ReadsAsWritten}
 use Rattle.packet.specs.Refusals.{RefusedAtEnd, Unaskable, Unlent, WriteRefusals}
+use Rattle.packet.proofs.Sets.{some_bit, no-bit}
 use Rattle.packet.proofs.ReadBack.{written-reads}
 use Rattle.packet.proofs.Refusals.{else-true, else-false, refused-when, accepted-when}
 
--- A number that is not 0 has a bit.
-some_bit : (most x : ℕ) → x ≤ most → 0 < x → (j : ℕ) × (x / 2 ^ j % 2 ≡ 1)
-some_bit zero x h l = absurd (omega arith)
-some_bit (suc most) x h l =
-    elim (cases_eq (x % 2) 1) [
-      | inl e ↦ (0, omega arith)
-      | inr e ↦ (let b = some_bit most (x / 2) (omega arith) (omega arith) in (1 + b.0, ap (λ n. n % 2) (sym (shr-shr x 1 b.0)) ∙ b.1))
-    ]
-
--- It has none past those below 2^n.
-no-bit : (n x j : ℕ) → x < 2 ^ n → n ≤ j → eqb (x / 2 ^ j % 2) 1 ≡ false
-no-bit n x j h l = let p : 2 ^ n ≤ 2 ^ j = pow_mono l in let q : x < 2 ^ j = omega arith in rw (div-eq_of_lt q)
-
+-- A number of 2^n or more has a bit past those below.
 bit_past : (n x : ℕ) → 2 ^ n ≤ x → (j : ℕ) × (n ≤ j) × (eqb (x / 2 ^ j % 2) 1 ≡ true)
 bit_past n x h =
     let b = some_bit (x / 2 ^ n) (x / 2 ^ n) (omega arith) (le-div 1 x (2 ^ n) (pow_pos n) (omega arith)) in

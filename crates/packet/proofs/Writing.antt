@@ -1,18 +1,15 @@
 -- The loop that writes records: what is still to be written, written here, gives all of them.
-use Rattle.std.proofs.Common.{◌≡◌, ℕ, suc, ◌+◌, ◌-◌, ◌*◌, ◌<◌, ◌≤◌, Bool, true, false, cond, eqb, leb, List, [], ◌∷◌, ◌++◌, length, Ok, Err, filter, sym, refl, ap, ◌∙◌, ap₂, suc-mul, arith}
-use Rattle.std.proofs.lemmas.Bool.{cond-true, cond-false, eq-eqb, le-leb, lt-leb}
-use Rattle.fault.specs.declared.PacketFault.TheVariants.{Buffer}
-use Rattle.fault.specs.declared.EndFault.TheVariants as end
+use Rattle.std.proofs.Common.{◌≡◌, ℕ, suc, ◌+◌, ◌-◌, ◌*◌, ◌<◌, ◌≤◌, Bool, true, false, cond, eqb, leb, List, [], ◌∷◌, ◌++◌, length, Ok, filter, sym, refl, ap, ◌∙◌, ap₂, suc-mul, arith}
+use Rattle.std.proofs.lemmas.Bool.{cond-true, eq-eqb, le-leb}
 use Rattle.fragment.specs.Carriers.{Terms}
 use Rattle.fragment.specs.Cutting.{Piece}
-use Rattle.fragment.specs.Laws.{data_in}
-use Rattle.fragment.specs.Streams.{stream_of, four_octets}
+use Rattle.fragment.specs.Streams.{stream_of}
 use Rattle.packet.specs.declared.values.Route.{Route}
 use Rattle.std.specs.List.{range_with_len}
 use Rattle.packet.specs.declared.values.Blocks.{Blocks}
 use Rattle.packet.specs.Octets.{over}
 use Rattle.packet.specs.Blocks.{carries, carried, fitting, is_selective}
-use Rattle.packet.specs.Images.{block_of, covered, image_of}
+use Rattle.packet.specs.Images.{block_of, image_of}
 use Rattle.packet.specs.Layout.{record_octets, records_octets, header_for, header_octets, packet_length, packet_octets, written, written_of}
 use Rattle.packet.proofs.Over.{over-over, over-nil, length_over}
 
@@ -99,22 +96,17 @@ module _ (size : ℕ) (image : List ℕ) (blocks : Blocks) (n : ℕ) where
 
 -- A header, and records of a sealed image behind it, are the packet.
 module _ (t : Terms) (number : List ℕ → ℕ) (route : Route) (serial : ℕ) (f : Piece) (blocks : Blocks) (message packet : List ℕ) where
-  pub packet-over : (k seal : ℕ) (selective : Bool) (front p p' : List ℕ)
-      → k ≡ length (carried blocks f.blocks) → selective ≡ is_selective blocks
-      → seal ≡ number (covered (data_in f (stream_of serial message)) f.pad)
+  pub packet-over : (size n k : ℕ) (selective : Bool) (image front p p' : List ℕ)
+      → size ≡ f.block → n ≡ f.blocks → k ≡ length (carried blocks f.blocks) → selective ≡ is_selective blocks
+      → image ≡ image_of number f (stream_of serial message)
       → front ≡ header_octets (record { route = route; start = f.start; selective = selective; number = f.number; records = k; pad = f.pad })
       → p ≡ over 0 front packet
-      → p' ≡ over 10 (records_octets f.block (covered (data_in f (stream_of serial message)) f.pad ++ four_octets seal) (carried blocks f.blocks)) p
+      → p' ≡ over 10 (records_octets size image (carried blocks n)) p
       → 10 ≤ length packet
       → p' ≡ over 0 (packet_octets number route f (stream_of serial message) blocks) packet
-  packet-over k seal selective front p p' ek es eseal ef ep ep' h =
-      ep'
-      ∙ ap (λ b. over 10 (records_octets f.block (covered (data_in f (stream_of serial message)) f.pad ++ four_octets seal) (carried blocks f.blocks)) b) (ep ∙ ap (λ x. over 0 x packet) (ef ∙ header))
-      ∙ ap (λ s. over 10 (records_octets f.block (covered (data_in f (stream_of serial message)) f.pad ++ four_octets s) (carried blocks f.blocks)) (over 0 (header_octets (header_for route f blocks)) packet)) eseal
-      ∙ over-over 0 (header_octets (header_for route f blocks)) (records_octets f.block (image_of number f (stream_of serial message)) (carried blocks f.blocks)) packet h
-    where
-      header : header_octets (record { route = route; start = f.start; selective = selective; number = f.number; records = k; pad = f.pad }) ≡ header_octets (header_for route f blocks)
-      header = ap₂ (λ (n : ℕ) (s : Bool). header_octets (record { route = route; start = f.start; selective = s; number = f.number; records = n; pad = f.pad })) ek es
+  packet-over size n k selective image front p p' esize en ek es ei ef ep ep' h =
+      rw (ep', esize, en, ei, ep, ef, ek, es)
+      (over-over 0 (header_octets (header_for route f blocks)) (records_octets f.block (image_of number f (stream_of serial message)) (carried blocks f.blocks)) packet h)
 
   pub packet-written : (n : ℕ) (p : List ℕ) → length message ≡ f.message → fitting t f.blocks blocks ≡ true
       → n ≡ packet_length f.block (length (carried blocks f.blocks)) → n ≤ length packet
@@ -126,10 +118,3 @@ module _ (t : Terms) (number : List ℕ → ℕ) (route : Route) (serial : ℕ) 
       cond-true (eqb (length message) f.message) _ _ (eq-eqb (length message) f.message lent)
       ∙ cond-true (leb (packet_length f.block (length (carried blocks f.blocks))) (length packet)) _ _ (le-leb _ _ (omega arith))
       ∙ cond-true (fitting t f.blocks blocks) _ _ fits)
-
-  pub packet-unwritten : (n : ℕ) → length message ≡ f.message → n ≡ packet_length f.block (length (carried blocks f.blocks)) → length packet < n
-      → written (Err (end.Packet Buffer)) packet ≡ written_of t number route serial f blocks message packet
-  packet-unwritten n lent en short =
-      sym (
-      cond-true (eqb (length message) f.message) _ _ (eq-eqb (length message) f.message lent)
-      ∙ cond-false (leb (packet_length f.block (length (carried blocks f.blocks))) (length packet)) _ _ (lt-leb _ _ (omega arith)))

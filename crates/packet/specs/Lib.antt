@@ -1,4 +1,5 @@
 pub mod Octets
+pub mod Numbered
 pub mod Blocks
 pub mod Images
 pub mod Sealing

@@ -1,11 +1,13 @@
 -- What reading octets answers: the first test that fails gives the fault.
-use Rattle.std.specs.Prelude.{ℕ, zero, suc, ◌+◌, ◌-◌, ◌*◌, Bool, true, false, cond, ◌&&◌, ◌||◌, List, [], ◌∷◌, length, take, drop, Some, None, Ok, Err, Option, Result, ◌==◌, nat_le, nat_lt, slice_index}
+use Rattle.std.specs.Prelude.{ℕ, zero, suc, ◌+◌, ◌-◌, ◌*◌, Bool, true, false, cond, ◌&&◌, ◌||◌, List, [], ◌∷◌, ◌++◌, length, take, drop, Some, None, Ok, Err, Option, Result, ◌==◌, nat_le, nat_lt, slice_index}
 use Rattle.fault.specs.declared.PacketFault.{PacketFault}
 use Rattle.fault.specs.declared.PacketFault.TheVariants.{Length, Kind, Field}
 use Rattle.fragment.specs.Carriers.{Terms}
 use Rattle.packet.specs.declared.values.Route.{Route}
 use Rattle.packet.specs.declared.values.Header.{Header}
+use Rattle.packet.specs.declared.values.Kind.{Kind as OctetsKind}
 use Rattle.packet.specs.declared.values.Kind.TheVariants as kind
+use Rattle.packet.specs.declared.front.Front.{Front}
 use Rattle.packet.specs.declared.values.Quality.TheVariants.{Good, Bad}
 use Rattle.packet.specs.Octets.{two_at}
 use Rattle.packet.specs.Layout.{kind_number, quality_number, flags_of, packet_length}
@@ -21,6 +23,23 @@ and_then (Err e) f = Err e
 
 abbrev pub route_at : List ℕ → Route
 route_at xs = record { source = two_at xs 1; destination = two_at xs 3 }
+
+-- The ten octets in front of a packet, or of a response.
+abbrev pub front_at : OctetsKind → List ℕ → Front
+front_at of_kind xs =
+    record {
+      kind = of_kind;
+      route = route_at xs;
+      shape = slice_index xs 5;
+      number = two_at xs 6;
+      last = slice_index xs 8 ∷ (slice_index xs 9 ∷ []);
+    }
+
+abbrev pub front_tests : OctetsKind → List ℕ → List (Bool × PacketFault)
+front_tests of_kind xs = (nat_le 10 (length xs), Length (length xs)) ∷ (((slice_index xs 0 == kind_number of_kind), Kind) ∷ [])
+
+abbrev pub front_of : OctetsKind → List ℕ → Result Front PacketFault
+front_of of_kind xs = first_of (front_tests of_kind xs) (front_at of_kind xs)
 
 -- Flags
 
@@ -45,27 +64,34 @@ least_data start = cond start 5 1
 abbrev pub enough_data : ℕ → ℕ → ℕ → ℕ → Bool
 enough_data size flags k pad = is_selective flags || nat_le (pad + 4 + least_data (is_start flags)) (k * size)
 
+abbrev pub field_tests : Terms → Front → List (Bool × PacketFault)
+field_tests t f =
+    (flags_fit t.selective f.shape, Field 5)
+    ∷ ((nat_lt f.number t.most, Field 6)
+    ∷ ((nat_le (slice_index f.last 0 + 1) 16, Field 8)
+    ∷ ((nat_lt (slice_index f.last 1) t.block, Field 9)
+    ∷ ((enough_data t.block f.shape (slice_index f.last 0 + 1) (slice_index f.last 1), Field 9)
+    ∷ []))))
+
+abbrev pub header_in_front : Front → Header
+header_in_front f =
+    record {
+      route = f.route;
+      start = is_start f.shape;
+      selective = is_selective f.shape;
+      number = f.number;
+      records = slice_index f.last 0 + 1;
+      pad = slice_index f.last 1;
+    }
+
+abbrev pub header_from : Terms → Front → Result Header PacketFault
+header_from t f = first_of (field_tests t f) (header_in_front f)
+
 abbrev pub header_tests : Terms → List ℕ → List (Bool × PacketFault)
-header_tests t xs =
-    (nat_le 10 (length xs), Length (length xs))
-    ∷ (((slice_index xs 0 == kind_number kind.Packet), Kind)
-    ∷ ((flags_fit t.selective (slice_index xs 5), Field 5)
-    ∷ ((nat_lt (two_at xs 6) t.most, Field 6)
-    ∷ ((nat_le (slice_index xs 8 + 1) 16, Field 8)
-    ∷ ((nat_lt (slice_index xs 9) t.block, Field 9)
-    ∷ ((enough_data t.block (slice_index xs 5) (slice_index xs 8 + 1) (slice_index xs 9), Field 9)
-    ∷ []))))))
+header_tests t xs = front_tests kind.Packet xs ++ field_tests t (front_at kind.Packet xs)
 
 abbrev pub header_at : List ℕ → Header
-header_at xs =
-    record {
-      route = route_at xs;
-      start = is_start (slice_index xs 5);
-      selective = is_selective (slice_index xs 5);
-      number = two_at xs 6;
-      records = slice_index xs 8 + 1;
-      pad = slice_index xs 9;
-    }
+header_at xs = header_in_front (front_at kind.Packet xs)
 
 abbrev pub header_of : Terms → List ℕ → Result Header PacketFault
 header_of t xs = first_of (header_tests t xs) (header_at xs)

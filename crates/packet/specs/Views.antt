@@ -14,12 +14,16 @@ pub record Seen : Type 0 where
   pub size : ℕ
   pub octets : List ℕ
 
+-- A packet that was read, as a value.
+abbrev pub seen_by : Packet → Seen
+seen_by p = record { header = p.header; size = p.size; octets = p.octets.now }
+
 -- What reading these octets gives.
 abbrev pub seen_of : Terms → List ℕ → Result Seen PacketFault
 seen_of t xs = and_then (read_of t xs) (λ h. Ok (record { header = h; size = t.block; octets = xs }))
 
 abbrev pub seen_in : Result Packet PacketFault → Result Seen PacketFault
-seen_in (Ok p) = Ok (record { header = p.header; size = p.size; octets = p.octets.now })
+seen_in (Ok p) = Ok (seen_by p)
 seen_in (Err fault) = Err fault
 
 -- The header of the packet that was read.

@@ -57,22 +57,13 @@ impl Blocks {
     pub(crate) fn is_selective(self) -> bool
         ensures { result ≡ is_selective self }
     {
-        match self {
-            Blocks::All => false,
-            Blocks::Only(_) => true,
-        }
+        matches!(self, Blocks::Only(_))
     }
 
     // How many blocks it carries of a fragment with so many.
     pub(crate) fn count(self, blocks: u8) -> u8
         ensures { result ≡ length (carried self blocks) }
     {
-        let mut count = 0;
-        for j in 0..blocks {
-            if self.carries(j) {
-                count += 1;
-            }
-        }
-        count
+        (0..blocks).filter(|j| self.carries(*j)).count() as u8
     }
 }

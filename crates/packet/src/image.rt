@@ -1,4 +1,6 @@
 // The image of a fragment: its data, pad and check, read in place from the lent message.
+ghost use Rattle.std.specs.Prelude.{◌≡◌, length};
+
 use fragment::piece::Fragment;
 
 #[derive(Drop)]
@@ -8,4 +10,5 @@ pub(crate) struct Image<'f, 'm, C> {
     pub message: &'m [u8],
     // The check of data and pad.
     pub seal: u32,
+    ghost lent: { length message.now ≡ fragment.now.message },
 }

@@ -2,6 +2,7 @@
 #![tactic(auto)]
 
 pub mod blocks;
+mod front;
 mod image;
 mod octets;
 pub mod packets;

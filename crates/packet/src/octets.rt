@@ -6,7 +6,7 @@ pub(crate) fn read_two(octets: &[u8], place: usize) -> u16
     requires { place + 1 < length octets.now }
     ensures { result ≡ two_at octets.now place }
 {
-    u16::from(octets[place]) * 256 + u16::from(octets[place + 1])
+    u16::from_be_bytes([octets[place], octets[place + 1]])
 }
 
 // Writes octets into a buffer from a place on.

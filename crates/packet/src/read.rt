@@ -1,70 +1,45 @@
 // Reading packets from octets.
 ghost use Rattle.std.specs.Prelude.{◌≡◌, ℕ, ◌+◌, ◌*◌, ◌<◌, ◌≤◌, length, Ok, Err, MatchResult};
-ghost use Rattle.packet.specs.Reading.{is_start, is_selective, flags_fit, header_of, record_of, records_from, record_place, read_of, block_at};
+ghost use Rattle.packet.specs.Reading.{header_from, record_of, records_from, record_place, read_of, block_at};
 ghost use Rattle.packet.specs.Layout.{packet_length};
 ghost use Rattle.packet.specs.Refusals.{PacketRefusals};
 ghost use Rattle.packet.specs.Views.{block_in, header_in, seen_in, seen_of};
 
-use crate::octets::read_two;
+use crate::front::{Flags, Front};
 use crate::packets::{Block, Packet};
-use crate::values::{Header, Kind, Quality, Route};
+use crate::values::{Header, Kind, Quality};
 use crate::write::{HEADER_OCTETS, RECORD_OCTETS};
 use fault::PacketFault;
 use fragment::carrier::Carrier;
 
-// Whether flags are known and fit the carrier.
-fn flags_fit(selective_retry: bool, flags: u8) -> bool
-    ensures { result ≡ flags_fit selective_retry flags }
+// The header that ten octets in front give, or their lowest wrong field.
+fn header_from<C: Carrier>(front: Front) -> Result<Header, PacketFault>
+    ensures { result ≡ header_from C.Carrier.terms front }
 {
-    if selective_retry {
-        flags == 0 || flags == 1 || flags == 4 || flags == 5
-    } else {
-        flags == 1
-    }
-}
-
-fn read_header<C: Carrier>(octets: &[u8]) -> Result<Header, PacketFault>
-    ensures { result ≡ header_of C.Carrier.terms octets.now }
-{
-    let length = octets.len();
-    if length < HEADER_OCTETS {
-        return Err(PacketFault::Length(length));
-    }
-    if octets[0] != Kind::Packet.octet() {
-        return Err(PacketFault::Kind);
-    }
-    let flags = octets[5];
-    if !flags_fit(C::has_selective_retry(), flags) {
+    let Some(Flags { start, selective }) = Flags::of::<C>(front.shape) else {
         return Err(PacketFault::Field(5));
-    }
-    let number = read_two(octets, 6);
-    if usize::from(number) >= C::fragment_limit() {
+    };
+    if usize::from(front.number) >= C::fragment_limit() {
         return Err(PacketFault::Field(6));
     }
-    if octets[8] > 15 {
+    let [behind, pad] = front.last;
+    if behind > 15 {
         return Err(PacketFault::Field(8));
     }
-    let records = octets[8] + 1;
-    let pad = octets[9];
+    let records = behind + 1;
     let size = C::block_size();
     if usize::from(pad) >= size {
         return Err(PacketFault::Field(9));
     }
-    let start = flags == 1 || flags == 5;
-    let selective = flags == 4 || flags == 5;
     let least = if start { 5 } else { 1 };
     if !selective && usize::from(records) * size < usize::from(pad) + 4 + least {
         return Err(PacketFault::Field(9));
     }
-    let route = Route {
-        source: read_two(octets, 1),
-        destination: read_two(octets, 3),
-    };
     Ok(Header {
-        route,
+        route: front.route,
         start,
         selective,
-        number,
+        number: front.number,
         records,
         pad,
     })
@@ -82,12 +57,10 @@ fn read_record(
     requires room { place + 2 < length octets.now }
     ensures { result ≡ record_of header.now octets.now i least place }
 {
-    let quality = octets[place + 2];
-    if quality == Quality::Bad.octet() {
-        return Ok(least);
-    }
-    if quality != Quality::Good.octet() {
-        return Err(PacketFault::Field(place + 2));
+    match Quality::try_from(octets[place + 2]) {
+        Ok(Quality::Good) => {}
+        Ok(Quality::Bad) => return Ok(least),
+        Err(_) => return Err(PacketFault::Field(place + 2)),
     }
     let block = octets[place];
     let fits = if header.selective {
@@ -111,6 +84,7 @@ fn read_records(octets: &[u8], header: &Header, size: usize) -> Result<u8, Packe
     ensures { result ≡ records_from size header.now octets.now header.now.records 0 0 }
 {
     let mut least = 0;
+    // By number, since a record's number is itself tested.
     for i in 0..header.records {
         let place = HEADER_OCTETS + usize::from(i) * (size + RECORD_OCTETS);
         least = read_record(octets, header, i, least, place)?;
@@ -123,13 +97,14 @@ pub fn read_packet<C: Carrier>(octets: &[u8]) -> Result<Packet<'_>, PacketFault>
     ensures value { seen_in result ≡ seen_of C.Carrier.terms octets.now }
     ensures refusals { PacketRefusals C.Carrier.terms octets.now (header_in result) }
 {
-    let header = read_header::<C>(octets)?;
+    let front = Front::read(octets, Kind::Packet)?;
+    let header = header_from::<C>(front)?;
     let size = C::block_size();
     let length = octets.len();
     if length != HEADER_OCTETS + usize::from(header.records) * (size + RECORD_OCTETS) {
         return Err(PacketFault::Length(length));
     }
-    let _ = read_records(octets, &header, size)?;
+    read_records(octets, &header, size)?;
     Ok(Packet {
         header,
         size: size as u8,
@@ -147,14 +122,17 @@ impl<'a> Packet<'a> {
         }
         let size = usize::from(self.size);
         let place = HEADER_OCTETS + i * (size + RECORD_OCTETS);
-        let from = place + RECORD_OCTETS;
         let octets = self.octets;
-        if from + size > octets.len() || octets[place + 2] != Quality::Good.octet() {
+        let [number, _, quality, block @ ..] = octets.get(place..place + RECORD_OCTETS + size)?
+        else {
+            return None;
+        };
+        if *quality != u8::from(Quality::Good) {
             return None;
         }
         Some(Block {
-            number: octets[place],
-            octets: &octets[from..from + size],
+            number: *number,
+            octets: block,
         })
     }
 }

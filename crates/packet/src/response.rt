@@ -1,28 +1,31 @@
 // Writing and reading responses.
-ghost use Rattle.std.specs.Prelude.{◌≡◌, ℕ, ◌+◌, ◌*◌, ◌<◌, ◌≤◌, length};
+ghost use Rattle.std.specs.Prelude.{◌≡◌, ℕ, ◌+◌, ◌*◌, ◌<◌, ◌≤◌, length, MatchOption};
 ghost use Rattle.packet.specs.Layout.{written};
 ghost use Rattle.packet.specs.ReadBack.{ResponseReads};
 ghost use Rattle.packet.specs.Refusals.{ResponseRefusals};
-ghost use Rattle.packet.specs.Responses.{code_number, code_flags, code_of, response_octets, responded_of, response_of};
+ghost use Rattle.packet.specs.Responses.{code_number, code_flags, code_of, response_octets, responded_of, response_from, response_of};
 
-use crate::octets::{put, read_two};
-use crate::values::{BlockSet, Code, Kind, Response, Route};
+use crate::front::Front;
+use crate::octets::put;
+use crate::values::{BlockSet, Code, Kind, Response};
 use crate::write::HEADER_OCTETS;
 use fault::PacketFault;
 use fragment::carrier::Carrier;
 
-impl Code {
-    fn octet(self) -> u8
-        ensures { result ≡ code_number self }
-    {
-        match self {
+impl From<Code> for u8 {
+    ghost from_gives = { λ code octet. octet ≡ code_number code };
+
+    fn from(code: Code) -> u8 {
+        match code {
             Code::Ack => 1,
             Code::AckSelective(_) => 2,
             Code::FullRetry => 3,
             Code::OutOfStep => 4,
         }
     }
+}
 
+impl Code {
     fn flags(self) -> u16
         ensures { result ≡ code_flags self }
     {
@@ -32,14 +35,16 @@ impl Code {
         }
     }
 
-    fn of(number: u8, flags: u16) -> Code
-        ensures { result ≡ code_of number flags }
+    // The code with this number, and these flags if it has any.
+    fn of(number: u8, flags: u16) -> Option<Code>
+        ensures { MatchOption result ((1 ≤ number → 4 < number)) (λ code. (1 ≤ number) × (number ≤ 4) × (code ≡ code_of number flags)) }
     {
         match number {
-            1 => Code::Ack,
-            2 => Code::AckSelective(BlockSet(flags)),
-            3 => Code::FullRetry,
-            _ => Code::OutOfStep,
+            1 => Some(Code::Ack),
+            2 => Some(Code::AckSelective(BlockSet(flags))),
+            3 => Some(Code::FullRetry),
+            4 => Some(Code::OutOfStep),
+            _ => None,
         }
     }
 }
@@ -48,24 +53,14 @@ impl Response {
     fn octets(self) -> [u8; 10]
         ensures { result ≡ response_octets self }
     {
-        let source = self.route.source.to_be_bytes();
-        let destination = self.route.destination.to_be_bytes();
-        let number = self.number.to_be_bytes();
-        let flags = self.code.flags().to_be_bytes();
-        let kind = Kind::Response.octet();
-        let code = self.code.octet();
-        [
-            kind,
-            source[0],
-            source[1],
-            destination[0],
-            destination[1],
-            code,
-            number[0],
-            number[1],
-            flags[0],
-            flags[1],
-        ]
+        let front = Front {
+            kind: Kind::Response,
+            route: self.route,
+            shape: u8::from(self.code),
+            number: self.number,
+            last: self.code.flags().to_be_bytes(),
+        };
+        front.octets()
     }
 }
 
@@ -81,40 +76,38 @@ pub fn write_response(response: Response, buffer: &mut [u8]) -> Result<usize, Pa
     Ok(HEADER_OCTETS)
 }
 
+// The response that ten octets give, or their lowest wrong field.
+fn response_from<C: Carrier>(front: Front) -> Result<Response, PacketFault>
+    ensures { result ≡ response_from C.Carrier.terms front }
+{
+    let flags = u16::from_be_bytes(front.last);
+    let Some(code) = Code::of(front.shape, flags) else {
+        return Err(PacketFault::Field(5));
+    };
+    if usize::from(front.number) >= C::fragment_limit() {
+        return Err(PacketFault::Field(6));
+    }
+    // Only the code that asks for blocks has flags.
+    if code.flags() != flags {
+        return Err(PacketFault::Field(8));
+    }
+    Ok(Response {
+        route: front.route,
+        number: front.number,
+        code,
+    })
+}
+
 // Reads a response, or says where its lowest wrong field is.
 pub fn read_response<C: Carrier>(octets: &[u8]) -> Result<Response, PacketFault>
     ensures value { result ≡ response_of C.Carrier.terms octets.now }
     ensures refusals { ResponseRefusals C.Carrier.terms octets.now result }
 {
+    let front = Front::read(octets, Kind::Response)?;
+    let response = response_from::<C>(front)?;
     let length = octets.len();
-    if length < HEADER_OCTETS {
-        return Err(PacketFault::Length(length));
-    }
-    if octets[0] != Kind::Response.octet() {
-        return Err(PacketFault::Kind);
-    }
-    let code = octets[5];
-    if code < 1 || code > 4 {
-        return Err(PacketFault::Field(5));
-    }
-    let number = read_two(octets, 6);
-    if usize::from(number) >= C::fragment_limit() {
-        return Err(PacketFault::Field(6));
-    }
-    let flags = read_two(octets, 8);
-    if code != 2 && flags != 0 {
-        return Err(PacketFault::Field(8));
-    }
     if length != HEADER_OCTETS {
         return Err(PacketFault::Length(length));
     }
-    let route = Route {
-        source: read_two(octets, 1),
-        destination: read_two(octets, 3),
-    };
-    Ok(Response {
-        route,
-        number,
-        code: Code::of(code, flags),
-    })
+    Ok(response)
 }

@@ -3,7 +3,7 @@ ghost use Rattle.std.specs.Prelude.{◌≡◌, ℕ, ◌+◌, ◌<◌, ◌≤◌,
 ghost use Rattle.fragment.specs.Cutting.{piece_of};
 ghost use Rattle.fragment.specs.Laws.{data_in};
 ghost use Rattle.fragment.specs.Streams.{stream_of};
-ghost use Rattle.packet.specs.Images.{covered};
+ghost use Rattle.packet.specs.Images.{covered, image_of};
 ghost use Rattle.packet.specs.Sealing.{image_in};
 
 use crate::image::Image;
@@ -14,7 +14,7 @@ use fragment::piece::Fragment;
 const ZEROS: [u8; 20] = [0; 20];
 
 // The check of a fragment's data and pad.
-pub(crate) fn seal_of<K: Check, C>(fragment: &Fragment<C>, serial: u32, message: &[u8]) -> u32
+fn seal_of<K: Check, C>(fragment: &Fragment<C>, serial: u32, message: &[u8]) -> u32
     requires { length message.now ≡ fragment.now.message }
     ensures { result ≡ K.Check.number (covered (data_in (piece_of fragment.now) (stream_of serial message.now)) fragment.now.pad) }
 {
@@ -39,10 +39,27 @@ fn stream_octet(serial: u32, message: &[u8], place: usize) -> u8
     }
 }
 
-impl<C> Image<'_, '_, C> {
+impl<'f, 'm, C> Image<'f, 'm, C> {
+    pub(crate) fn sealed<K: Check>(
+        fragment: &'f Fragment<C>,
+        serial: u32,
+        message: &'m [u8],
+    ) -> Image<'f, 'm, C>
+        requires { length message.now ≡ fragment.now.message }
+        ensures fragment { result.fragment.now ≡ fragment.now }
+        ensures image { image_in result ≡ image_of K.Check.number (piece_of fragment.now) (stream_of serial message.now) }
+    {
+        Image {
+            fragment,
+            serial,
+            message,
+            seal: seal_of::<K, C>(fragment, serial, message),
+        }
+    }
+
     // The octet at a place of the image.
     pub(crate) fn octet(&self, place: usize) -> u8
-        requires { (length self.now.message.now ≡ self.now.fragment.now.message) × (place < self.now.fragment.now.octets + self.now.fragment.now.pad + 4) }
+        requires { place < self.now.fragment.now.octets + self.now.fragment.now.pad + 4 }
         ensures { result ≡ slice_index (image_in self.now) place }
     {
         let content = self.fragment.octets;

@@ -1,4 +1,7 @@
 // What packets and responses hold, as values.
+ghost use Rattle.std.specs.Prelude.{◌≡◌};
+ghost use Rattle.packet.specs.Layout.{kind_number, quality_number};
+ghost use Rattle.packet.specs.Numbered.{Numbered};
 
 // Who sends and who is meant.
 #[derive(Clone, Copy, PartialEq, Eq, Debug)]
@@ -27,12 +30,66 @@ pub enum Kind {
     Response,
 }
 
+impl From<Kind> for u8 {
+    ghost from_gives = { λ kind octet. octet ≡ kind_number kind };
+
+    fn from(kind: Kind) -> u8 {
+        match kind {
+            Kind::Packet => 1,
+            Kind::Response => 2,
+        }
+    }
+}
+
+impl TryFrom<u8> for Kind {
+    type Error = UnknownOctet;
+
+    ghost try_from_gives = { Numbered kind_number };
+
+    fn try_from(octet: u8) -> Result<Kind, UnknownOctet> {
+        match octet {
+            1 => Ok(Kind::Packet),
+            2 => Ok(Kind::Response),
+            _ => Err(UnknownOctet(octet)),
+        }
+    }
+}
+
 // Whether a record's block came through the radio whole.
 #[derive(Clone, Copy, PartialEq, Eq, Debug)]
 pub enum Quality {
     Good,
     Bad,
 }
+
+impl From<Quality> for u8 {
+    ghost from_gives = { λ quality octet. octet ≡ quality_number quality };
+
+    fn from(quality: Quality) -> u8 {
+        match quality {
+            Quality::Good => 0,
+            Quality::Bad => 1,
+        }
+    }
+}
+
+impl TryFrom<u8> for Quality {
+    type Error = UnknownOctet;
+
+    ghost try_from_gives = { Numbered quality_number };
+
+    fn try_from(octet: u8) -> Result<Quality, UnknownOctet> {
+        match octet {
+            0 => Ok(Quality::Good),
+            1 => Ok(Quality::Bad),
+            _ => Err(UnknownOctet(octet)),
+        }
+    }
+}
+
+// An octet that is the number of no such value.
+#[derive(Clone, Copy, PartialEq, Eq, Debug)]
+pub struct UnknownOctet(pub u8);
 
 // The header of a packet.
 #[derive(Clone, Copy, PartialEq, Eq, Debug)]

@@ -7,11 +7,11 @@ ghost use Rattle.packet.specs.Images.{block_of};
 ghost use Rattle.packet.specs.Sealing.{image_in};
 ghost use Rattle.packet.specs.ReadBack.{ReadsAsWritten};
 ghost use Rattle.packet.specs.Refusals.{WriteRefusals};
-ghost use Rattle.packet.specs.Layout.{kind_number, quality_number, flags_of, header_octets, record_octets, records_octets, packet_length, written, written_of};
+ghost use Rattle.packet.specs.Layout.{header_octets, record_octets, records_octets, packet_length, written, written_of};
 
+use crate::front::{Flags, Front};
 use crate::image::Image;
 use crate::octets::put;
-use crate::sealing::seal_of;
 use crate::values::{Blocks, Header, Kind, Quality, Route};
 use check32::Check;
 use fault::{EndFault, PacketFault};
@@ -24,99 +24,66 @@ pub const HEADER_OCTETS: usize = 10;
 // Octets of a record before its block.
 pub const RECORD_OCTETS: usize = 3;
 
-impl Kind {
-    pub(crate) fn octet(self) -> u8
-        ensures { result ≡ kind_number self }
-    {
-        match self {
-            Kind::Packet => 1,
-            Kind::Response => 2,
-        }
-    }
-}
-
-impl Quality {
-    pub(crate) fn octet(self) -> u8
-        ensures { result ≡ quality_number self }
-    {
-        match self {
-            Quality::Good => 0,
-            Quality::Bad => 1,
-        }
-    }
-}
-
-fn flags_octet(start: bool, selective: bool) -> u8
-    ensures { result ≡ flags_of start selective }
-{
-    let first = if start { 1 } else { 0 };
-    if selective { first + 4 } else { first }
-}
-
 impl Header {
     fn octets(self) -> [u8; 10]
         requires { 1 ≤ self.records }
         ensures { result ≡ header_octets self }
     {
-        let source = self.route.source.to_be_bytes();
-        let destination = self.route.destination.to_be_bytes();
-        let flags = flags_octet(self.start, self.selective);
-        let number = self.number.to_be_bytes();
-        let kind = Kind::Packet.octet();
-        [
-            kind,
-            source[0],
-            source[1],
-            destination[0],
-            destination[1],
-            flags,
-            number[0],
-            number[1],
-            self.records - 1,
-            self.pad,
-        ]
+        let flags = Flags {
+            start: self.start,
+            selective: self.selective,
+        };
+        let front = Front {
+            kind: Kind::Packet,
+            route: self.route,
+            shape: u8::from(flags),
+            number: self.number,
+            last: [self.records - 1, self.pad],
+        };
+        front.octets()
     }
 }
 
-// Writes block j of an image.
-fn write_block<C>(packet: &mut [u8], place: usize, image: &Image<C>, j: usize)
-    requires lent { length image.now.message.now ≡ image.now.fragment.now.message }
-    requires there { j < image.now.fragment.now.blocks }
-    requires room { place + image.now.fragment.now.block ≤ length packet.old }
-    ensures { packet.new ≡ over place (block_of image.now.fragment.now.block (image_in image.now) j) packet.old }
-{
-    let size = image.fragment.block;
-    for i in 0..size {
-        packet[place + i] = image.octet(j * size + i);
+impl<C> Image<'_, '_, C> {
+    // Writes block j.
+    fn write_block(&self, block: &mut [u8], j: u8)
+        requires there { j < self.now.fragment.now.blocks }
+        requires room { length block.old ≡ self.now.fragment.now.block }
+        ensures { block.new ≡ block_of self.now.fragment.now.block (image_in self.now) j }
+    {
+        let from = usize::from(j) * self.fragment.block;
+        for (i, octet) in block.iter_mut().enumerate() {
+            *octet = self.octet(from + i);
+        }
     }
-}
 
-// Writes the record of block j, which `frame` records follow.
-fn write_record<C>(packet: &mut [u8], place: usize, image: &Image<C>, j: u8, frame: u8)
-    requires lent { length image.now.message.now ≡ image.now.fragment.now.message }
-    requires there { j < image.now.fragment.now.blocks }
-    requires room { place + (image.now.fragment.now.block + 3) ≤ length packet.old }
-    ensures { packet.new ≡ over place (record_octets j frame (block_of image.now.fragment.now.block (image_in image.now) j)) packet.old }
-{
-    put(packet, place, &[j, frame, Quality::Good.octet()]);
-    write_block(packet, place + RECORD_OCTETS, image, usize::from(j));
-}
+    // Writes the record of block j, which `frame` records follow.
+    fn write_record(&self, octets: &mut [u8], j: u8, frame: u8)
+        requires there { j < self.now.fragment.now.blocks }
+        requires room { length octets.old ≡ self.now.fragment.now.block + 3 }
+        ensures { octets.new ≡ record_octets j frame (block_of self.now.fragment.now.block (image_in self.now) j) }
+    {
+        let (front, block) = octets.split_at_mut(RECORD_OCTETS);
+        front.copy_from_slice(&[j, frame, u8::from(Quality::Good)]);
+        self.write_block(block, j);
+    }
 
-// Writes the records of the blocks that a packet carries, `count` of them.
-fn write_records<C>(packet: &mut [u8], image: &Image<C>, blocks: Blocks, count: u8)
-    requires lent { length image.now.message.now ≡ image.now.fragment.now.message }
-    requires counted { count ≡ length (carried blocks image.now.fragment.now.blocks) }
-    requires room { packet_length image.now.fragment.now.block count ≤ length packet.old }
-    ensures { packet.new ≡ over 10 (records_octets image.now.fragment.now.block (image_in image.now) (carried blocks image.now.fragment.now.blocks)) packet.old }
-{
-    let size = image.fragment.block + RECORD_OCTETS;
-    let mut place = HEADER_OCTETS;
-    let mut left = count;
-    for j in 0..image.fragment.blocks as u8 {
-        if blocks.carries(j) {
-            left -= 1;
-            write_record(packet, place, image, j, left);
-            place += size;
+    // Writes the records of the blocks that a packet carries, `count` of them.
+    fn write_records(&self, packet: &mut [u8], blocks: Blocks, count: u8)
+        requires counted { count ≡ length (carried blocks self.now.fragment.now.blocks) }
+        requires room { packet_length self.now.fragment.now.block count ≤ length packet.old }
+        ensures { packet.new ≡ over 10 (records_octets self.now.fragment.now.block (image_in self.now) (carried blocks self.now.fragment.now.blocks)) packet.old }
+    {
+        let size = self.fragment.block + RECORD_OCTETS;
+        // Counted by hand: a closure in the iterator of a generic function's loop has no proof.
+        let mut place = HEADER_OCTETS;
+        let mut left = count;
+        for j in 0..self.fragment.blocks as u8 {
+            if blocks.carries(j) {
+                left -= 1;
+                self.write_record(&mut packet[place..place + size], j, left);
+                place += size;
+            }
         }
     }
 }
@@ -135,13 +102,13 @@ pub fn write_packet<C: Carrier, K: Check>(
     ensures reads { ReadsAsWritten C.Carrier.terms K.Check.number route serial (piece_of fragment.now) blocks message.now result packet.new }
 {
     if message.len() != fragment.message {
-        return Err(EndFault::Packet(PacketFault::Message));
+        return Err(PacketFault::Message.into());
     }
     let n = fragment.blocks as u8;
     let count = blocks.count(n);
     let length = HEADER_OCTETS + usize::from(count) * (fragment.block + RECORD_OCTETS);
     if packet.len() < length {
-        return Err(EndFault::Packet(PacketFault::Buffer));
+        return Err(PacketFault::Buffer.into());
     }
     if !blocks.fit::<C>(n) {
         return Err(EndFault::Blocks);
@@ -155,17 +122,6 @@ pub fn write_packet<C: Carrier, K: Check>(
         pad: fragment.pad as u8,
     };
     put(packet, 0, &header.octets());
-    let seal = seal_of::<K, C>(fragment, serial, message);
-    write_records(
-        packet,
-        &Image {
-            fragment,
-            serial,
-            message,
-            seal,
-        },
-        blocks,
-        count,
-    );
+    Image::sealed::<K>(fragment, serial, message).write_records(packet, blocks, count);
     Ok(length)
 }

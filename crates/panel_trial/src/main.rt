@@ -18,8 +18,8 @@ fn main(rt: HostRuntime) -> anyhow::Result<()> {
     let mut voice: Option<Bench<VoiceAlongCall, Polynomial>> = None;
     for line in input.as_str().lines() {
         match line.split_once(' ') {
-            Some(("data", command)) => act(heap, &mut data, command, &mut text)?,
-            Some(("voice", command)) => act(heap, &mut voice, command, &mut text)?,
+            Some(("data", command)) => act(&mut data, command, &mut text)?,
+            Some(("voice", command)) => act(&mut voice, command, &mut text)?,
             _ => text.push_str("(unknown)\n")?,
         }
     }

@@ -15,8 +15,8 @@ use Rattle.packet.specs.Blocks.{carries, carried}
 use Rattle.packet.specs.Reading.{and_then}
 use Rattle.sender.specs.declared.values.Base.{Base}
 use Rattle.sender.specs.declared.values.Session.{Session}
-use Rattle.sender.specs.declared.values.Stepped.{Stepped}
-use Rattle.sender.specs.declared.values.Stepped.TheVariants.{On, Ended}
+use Rattle.sender.specs.Steps.{Stepped}
+use Rattle.sender.specs.declared.values.Next.TheVariants.{On, Ended}
 use Rattle.sender.specs.Steps.{serial_after, session_of, with_serial, start_of, sent_of, counted, after_put, step_of, blocks_in, block_count, admit_of}
 use Rattle.sender.specs.Runs.{onward, run_of}
 use Rattle.sender.specs.Laws.{Sendable, OnSendable, Bounded, packet_size}
@@ -143,7 +143,7 @@ module _ (t : Terms) (sound : Sound t) where
           from : (q : Pair) (log : List Step) (code : Option Code) (after : Stepped) → q.base ≡ b → step_of b (counted s) code ≡ after → OnSendable t after
               → ((next : Session) → After (suc k) next → Ends (turns_from t number fuel line m q next log)) → Ends (on_stepped t number (turns_from t number fuel line m) q log after)
           from q log code (On next) same e can on = on next (after_on k s next code a e can)
-          from q log code (Ended report) same e can on = (q, refl, same)
+          from q log code (Ended report left) same e can on = (q, refl, same)
 
     -- A session that is started ends.
     pub sessions-end : (line : ℕ) (m : List ℕ) (p : Pair) (b : Base) (s : Session) (steps : List Step) → p.base.limit ≤ 15 → start_of t p.base (length m) ≡ Ok (b, s)

@@ -5,8 +5,8 @@ use Rattle.fault.specs.declared.EndFault.{EndFault}
 use Rattle.fragment.specs.Carriers.{Terms}
 use Rattle.sender.specs.declared.values.Base.{Base}
 use Rattle.sender.specs.declared.values.Session.{Session}
-use Rattle.sender.specs.declared.values.Stepped.{Stepped}
-use Rattle.sender.specs.declared.values.Stepped.TheVariants as stepped
+use Rattle.sender.specs.Steps.{Stepped}
+use Rattle.sender.specs.declared.values.Next.TheVariants as stepped
 use Rattle.sender.specs.Steps.{start_of}
 use Rattle.agreement.specs.Turns.{Pair, Turned, turn_of}
 use Rattle.agreement.specs.Histories.{Event, refused, started, turned, World, between, within, note_of, with_base}
@@ -50,7 +50,7 @@ module _ (t : Terms) (number : List ℕ → ℕ) where
         → Behind steps (on_stepped t number go p (noted line e steps) d) (on_stepped t number go p (noted line e []) d)
     stepped-behind line e p steps (stepped.On s) =
         behind-one line e steps (go p s (noted line e steps)) (go p s (noted line e [])) (go p s []) (again p s (noted line e steps)) (again p s (noted line e []))
-    stepped-behind line e p steps (stepped.Ended report) = behind-event line e steps (between p)
+    stepped-behind line e p steps (stepped.Ended report left) = behind-event line e steps (between p)
 
     turned-behind : (line : ℕ) (m : List ℕ) (p : Pair) (s : Session) (steps : List Step) (r : Result Turned EndFault)
         → Behind steps (on_turned t number line m go p s steps r) (on_turned t number line m go p s [] r)
@@ -60,7 +60,7 @@ module _ (t : Terms) (number : List ℕ → ℕ) where
     stepped-told : (line : ℕ) (e : Event) (text : List ℕ) (p : Pair) (d : Stepped)
         → goes_on go (text ++ event_text line e) (place_of p d) ≡ telling_of text (on_stepped t number go p (noted line e []) d)
     stepped-told line e text p (stepped.On s) = behind-told text (noted line e []) (go p s (noted line e [])) (go p s []) (again p s (noted line e []))
-    stepped-told line e text p (stepped.Ended report) = refl
+    stepped-told line e text p (stepped.Ended report left) = refl
 
     turned-told : (line : ℕ) (m text : List ℕ) (p : Pair) (s : Session) (r : Result Turned EndFault)
         → goes_on go (left_of t line text p s r).text (left_of t line text p s r).place ≡ telling_of text (on_turned t number line m go p s [] r)
@@ -142,9 +142,6 @@ module _ (t : Terms) (number : List ℕ → ℕ) where
   pub sends_left : List script.Message → List ℕ → Stand → Telling
   sends_left sends text stand = telling_of text (sends_from t number sends (story (world_with stand) []))
 
-  pub sends-first : (sends : List script.Message) (text : List ℕ) (stand : Stand) → sends_left (drop 0 sends) text stand ≡ sends_left sends text stand
-  sends-first sends text stand = refl
-
   pub send-told : (sends : List script.Message) (i : ℕ) (text : List ℕ) (stand : Stand) (x : Telling) → i < length sends
       → x ≡ telling_of text (send_from t number (get_or sends i (record { line = 0; count = 0; value = 0 })) [] (world_with stand))
       → sends_left (drop (i + 1) sends) x.text x.stand ≡ sends_left (drop i sends) text stand
@@ -182,8 +179,3 @@ module _ (t : Terms) (number : List ℕ → ℕ) where
       ∙ behind-told text steps (turns_from t number (most_turns t number) line m (with_base b p) s steps) (turns_from t number (most_turns t number) line m (with_base b p) s [])
       (turns-behind (most_turns t number) line m (with_base b p) s steps)
       ∙ ap (λ x. telling_of text (on_started t number line m p [] x)) e
-
-  pub refused-told : (line : ℕ) (m text after : List ℕ) (p : Pair) (fault : EndFault) (r : Result (Base × Session) EndFault) → Err fault ≡ r
-      → after ≡ text ++ event_text line (refused fault) → record { text = after; stand = resting p } ≡ telling_of text (on_started t number line m p [] r)
-  refused-told line m text after p fault r e same =
-      ap (λ l. record { text = l; stand = resting p }) same ∙ ap (λ x. telling_of text (on_started t number line m p [] x)) e

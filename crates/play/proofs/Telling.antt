@@ -7,8 +7,8 @@ use Rattle.fault.specs.declared.EndFault.{EndFault}
 use Rattle.fragment.specs.Carriers.{Terms, Sound, data_call, voice_along_call}
 use Rattle.sender.specs.declared.values.Base.{Base}
 use Rattle.sender.specs.declared.values.Session.{Session}
-use Rattle.sender.specs.declared.values.Stepped.{Stepped}
-use Rattle.sender.specs.declared.values.Stepped.TheVariants.{On, Ended}
+use Rattle.sender.specs.Steps.{Stepped}
+use Rattle.sender.specs.declared.values.Next.TheVariants.{On, Ended}
 use Rattle.sender.specs.Steps.{start_of, fresh_of}
 use Rattle.receiver.specs.Calls.{fresh_state, made_of}
 use Rattle.air.specs.Fates.{scheduled}
@@ -19,14 +19,16 @@ use Rattle.agreement.proofs.Ties.{Lawful}
 use Rattle.agreement.proofs.Agreed.{history-agrees}
 use Rattle.agreement.proofs.Worked.{data-sound, voice-sound, lawful-polynomial, lawful-sum}
 use Rattle.exchange.specs.Views.{FreshPair, fresh_pair_of}
-use Rattle.script.specs.declared.values.CarrierWord.{CarrierWord}
-use Rattle.script.specs.declared.values.CarrierWord.TheVariants.{Data, Voice}
-use Rattle.script.specs.declared.values.CheckWord.{CheckWord}
-use Rattle.script.specs.declared.values.CheckWord.TheVariants.{Polynomial, Sum}
+use Rattle.fragment.specs.Names.{terms_of}
+use Rattle.fragment.specs.declared.name.CarrierName.{CarrierName}
+use Rattle.fragment.specs.declared.name.CarrierName.TheVariants.{Data, Voice}
+use Rattle.check32.specs.Names.{number_by}
+use Rattle.check32.specs.declared.name.CheckName.{CheckName}
+use Rattle.check32.specs.declared.name.CheckName.TheVariants.{Polynomial, Sum}
 use Rattle.script.specs.declared.values.Message as script
 use Rattle.script.specs.Scripts.{Plan, script_of}
 use Rattle.script.proofs.Ranges.{small-values, small-limit, small-serial}
-use Rattle.play.specs.Stories.{Step, history_of, Story, story, noted, on_stepped, on_turned, turns_from, on_started, octets_of, send_from, sends_from, pair_with, story_with, told_by, told_of, terms_of, number_by, answer_to}
+use Rattle.play.specs.Stories.{Step, history_of, Story, story, noted, on_stepped, on_turned, turns_from, on_started, octets_of, send_from, sends_from, pair_with, story_with, told_by, told_of, answer_to}
 use Rattle.play.specs.Laws.{origin_of, Told, TellsHistory}
 use Rattle.play.proofs.Ending.{sessions-end, begun}
 
@@ -48,7 +50,7 @@ module _ (t : Terms) (number : List ℕ → ℕ) (o : Origin) where
 
       go : (st : Stepped) → x.stepped ≡ st → Leads (on_stepped t number on x.pair (noted line (histories.turned (note_of t p s x)) steps) st)
       go (On s') is = further x.pair s' (noted line (histories.turned (note_of t p s x)) steps) (after (On s') is)
-      go (Ended report) is = after (Ended report) is
+      go (Ended report left) is = after (Ended report left) is
 
   turns-lead : (k line : ℕ) (m : List ℕ) (p : Pair) (s : Session) (steps : List Step) → Reached t number o (history_of steps) (within p s m) → Leads (turns_from t number k line m p s steps)
   turns-lead zero line m p s steps h = h
@@ -103,8 +105,8 @@ module _ (t : Terms) (number : List ℕ → ℕ) (law : Lawful t number) (text :
   sends-octets (send ∷ later) h = (octets-repeated send.count send.value h.0, sends-octets later h.1)
 
   fresh-leads : (room : ℕ) → 5 ≤ room
-      → Reached t number (record { limit = plan.head.retries; first = plan.head.serial; room = room; fates = scheduled plan.turns 0 }) []
-      (between (record { base = (fresh_one plan).base; route = (fresh_one plan).route; state = (fresh_one plan).state; store = replicate room 0; fates = scheduled plan.turns 0 }))
+      → Reached t number (record { limit = plan.head.retries; first = plan.head.serial; room = room; fates = scheduled plan.turns }) []
+      (between (record { base = (fresh_one plan).base; route = (fresh_one plan).route; state = (fresh_one plan).state; store = replicate room 0; fates = scheduled plan.turns }))
   fresh-leads room enough =
       let f = fresh-pair room plan.head.retries plan.head.serial enough (small-limit text plan read) in
       histories.fresh 1 2 (fresh_one plan).base fresh_state (replicate room 0) (omega arith) (omega arith) (omega (arith, small-serial text plan read)) f.1 f.0 (sym (length-replicate room 0))
@@ -149,7 +151,7 @@ module _ (t : Terms) (number : List ℕ → ℕ) (sound : Sound t) where
   sends-rest [] x r = r
   sends-rest (send ∷ later) x r = sends-rest later (send_from t number send x.steps x.world) (send-rests send x r)
 
-lawful-by : (carrier : CarrierWord) (check : CheckWord) → Lawful (terms_of carrier) (number_by check)
+lawful-by : (carrier : CarrierName) (check : CheckName) → Lawful (terms_of carrier) (number_by check)
 lawful-by Data Polynomial = lawful-polynomial data_call data-sound
 lawful-by Data Sum = lawful-sum data_call data-sound
 lawful-by Voice Polynomial = lawful-polynomial voice_along_call voice-sound

@@ -13,7 +13,7 @@ use Rattle.play.specs.Views.{Telling, telling_of}
 
 module _ (t : Terms) (number : List ℕ → ℕ) (plan : Plan) where
   pub whole-told : (f : FreshPair) (sends : List script.Message) (store : List ℕ) (fates : ℕ → Fate) (before : List ℕ) (x : Telling)
-      → Ok f ≡ fresh_for t number plan → before ≡ [] → sends ≡ plan.sends → store ≡ replicate 65536 0 → fates ≡ scheduled plan.turns 0
+      → Ok f ≡ fresh_for t number plan → before ≡ [] → sends ≡ plan.sends → store ≡ replicate 65536 0 → fates ≡ scheduled plan.turns
       → x ≡ telling_of before (sends_from t number sends (story (between (record { base = f.base; route = f.route; state = f.state; store = store; fates = fates })) []))
       → x.text ≡ told_of t number plan
   whole-told f sends store fates before x made none all zeros turns e =

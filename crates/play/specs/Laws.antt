@@ -1,17 +1,19 @@
 -- What the playing of a drill amounts to.
 use Rattle.std.specs.Prelude.{◌≡◌, ℕ, List, Ok}
 use Rattle.fragment.specs.Carriers.{Terms}
+use Rattle.fragment.specs.Names.{terms_of}
+use Rattle.check32.specs.Names.{number_by}
 use Rattle.air.specs.Fates.{scheduled}
 use Rattle.agreement.specs.Turns.{Pair}
 use Rattle.agreement.specs.Histories.{between, Origin, Reached}
 use Rattle.agreement.specs.Agreement.{AtOneOctet, Agreement}
 use Rattle.exchange.specs.Views.{FreshPair}
 use Rattle.script.specs.Scripts.{Plan, script_of}
-use Rattle.play.specs.Stories.{text_of, history_of, story_with, fresh_for, terms_of, number_by, answer_of}
+use Rattle.play.specs.Stories.{text_of, history_of, story_with, fresh_for, answer_of}
 
 -- The pair that a drill asks for.
 abbrev pub origin_of : Plan → Origin
-origin_of plan = record { limit = plan.head.retries; first = plan.head.serial; room = 65536; fates = scheduled plan.turns 0 }
+origin_of plan = record { limit = plan.head.retries; first = plan.head.serial; room = 65536; fates = scheduled plan.turns }
 
 -- A text that is told of a history: it leads from the drill's fresh pair to the end of a session, and it agrees.
 pub record Told (t : Terms) (number : List ℕ → ℕ) (plan : Plan) (text : List ℕ) : Type 0 where

@@ -1,14 +1,14 @@
 -- What a drill plays, and the text that tells it.
 use Rattle.std.specs.Prelude.{ℕ, zero, suc, List, [], ◌∷◌, ◌++◌, map, length, replicate, Some, None, Ok, Err, Option, Result}
 use Rattle.fault.specs.declared.EndFault.{EndFault}
-use Rattle.fragment.specs.Carriers.{Terms, data_call, voice_along_call}
-use Rattle.check32.specs.Addition.{sum_of}
-use Rattle.check32.specs.Division.{polynomial_of}
+use Rattle.fragment.specs.Carriers.{Terms}
+use Rattle.fragment.specs.Names.{terms_of}
+use Rattle.check32.specs.Names.{number_by}
 use Rattle.sender.specs.declared.values.Base.{Base}
 use Rattle.sender.specs.declared.values.Session.{Session}
 use Rattle.sender.specs.declared.values.Report.{Report}
-use Rattle.sender.specs.declared.values.Stepped.{Stepped}
-use Rattle.sender.specs.declared.values.Stepped.TheVariants.{On, Ended}
+use Rattle.sender.specs.Steps.{Stepped}
+use Rattle.sender.specs.declared.values.Next.TheVariants.{On, Ended}
 use Rattle.sender.specs.Steps.{start_of}
 use Rattle.air.specs.declared.fate.Fate.{Fate}
 use Rattle.air.specs.Fates.{scheduled}
@@ -17,10 +17,6 @@ use Rattle.agreement.specs.Histories.{Message, Event, refused, started, turned, 
 use Rattle.exchange.specs.Views.{FreshPair, fresh_pair_of}
 use Rattle.tell.specs.declared.faults.DrillFault.TheVariants.{End}
 use Rattle.tell.specs.declared.faults.Refused.{Refused}
-use Rattle.script.specs.declared.values.CarrierWord.{CarrierWord}
-use Rattle.script.specs.declared.values.CarrierWord.TheVariants.{Data, Voice}
-use Rattle.script.specs.declared.values.CheckWord.{CheckWord}
-use Rattle.script.specs.declared.values.CheckWord.TheVariants.{Polynomial, Sum}
 use Rattle.script.specs.declared.values.Message as script
 use Rattle.tell.specs.Printed.{up_line, report_line, refused_line}
 use Rattle.script.specs.Scripts.{Plan, script_of}
@@ -75,7 +71,7 @@ module _ (t : Terms) (number : List ℕ → ℕ) where
   -- After a turn the session goes on, or has ended.
   abbrev pub on_stepped : (Pair → Session → List Step → Story) → Pair → List Step → Stepped → Story
   on_stepped on p steps (On s) = on p s steps
-  on_stepped on p steps (Ended report) = story (between p) steps
+  on_stepped on p steps (Ended report left) = story (between p) steps
 
   abbrev pub on_turned : ℕ → List ℕ → (Pair → Session → List Step → Story) → Pair → Session → List Step → Result Turned EndFault → Story
   on_turned line m on p s steps (Ok x) = on_stepped on x.pair (noted line (turned (note_of t p s x)) steps) x.stepped
@@ -110,7 +106,7 @@ module _ (t : Terms) (number : List ℕ → ℕ) where
 
   -- The pair of a drill: addresses 1 and 2, a message store of 65,536 octets, and the turns of the drill as its air.
   abbrev pub pair_with : List Fate → FreshPair → Pair
-  pair_with turns f = record { base = f.base; route = f.route; state = f.state; store = replicate 65536 0; fates = scheduled turns 0 }
+  pair_with turns f = record { base = f.base; route = f.route; state = f.state; store = replicate 65536 0; fates = scheduled turns }
 
   abbrev pub fresh_for : Plan → Result FreshPair EndFault
   fresh_for plan = fresh_pair_of 1 2 plan.head.retries plan.head.serial (replicate 65536 0)
@@ -125,14 +121,6 @@ module _ (t : Terms) (number : List ℕ → ℕ) where
 
   abbrev pub told_of : Plan → List ℕ
   told_of plan = told_by plan (fresh_for plan)
-
-abbrev pub terms_of : CarrierWord → Terms
-terms_of Data = data_call
-terms_of Voice = voice_along_call
-
-abbrev pub number_by : CheckWord → List ℕ → ℕ
-number_by Polynomial = polynomial_of
-number_by Sum = sum_of
 
 -- What is printed for a text: its first wrong line, or what the drill tells.
 abbrev pub answer_to : Result Plan Refused → List ℕ

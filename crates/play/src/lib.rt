@@ -2,35 +2,40 @@
 #![tactic(auto)]
 
 ghost use Rattle.std.specs.Prelude.{◌≡◌, IfOk};
+ghost use Rattle.fragment.specs.Names.{terms_of};
+ghost use Rattle.check32.specs.Names.{number_by};
 ghost use Rattle.play.specs.Laws.{TellsHistory};
-ghost use Rattle.play.specs.Stories.{told_of, terms_of, number_by, answer_of};
+ghost use Rattle.play.specs.Stories.{told_of, answer_of};
 ghost use Rattle.play.specs.Views.{asked_by};
 
 mod playing;
 mod printing;
+mod scene;
 mod sending;
 mod stage;
 mod turning;
 
-use check32::{Polynomial, Sum};
+use check32::{CheckName, Polynomial, Sum};
 use fragment::carrier::{DataCall, VoiceAlongCall};
+use fragment::name::CarrierName;
 use playing::play;
 use script::parse::parse;
-use script::values::{CarrierWord, CheckWord, Script};
+use script::values::{Script, ScriptError};
 use std::alloc::{AllocError, Global};
-use tell::print::push_refused;
+use tell::print::{Line, push_line};
 
 // What a drill tells, at the carrier and the check that it asks for.
 fn tell_drill(heap: Global, script: &Script) -> Result<Vec<u8>, AllocError>
     ensures { IfOk result (λ text. text.items ≡ told_of (terms_of script.now.head.carrier) (number_by script.now.head.check) (asked_by script.now)) }
 {
+    // A match, since each arm is an instance of a generic function, which no closure can be.
     match (script.head.carrier, script.head.check) {
-        (CarrierWord::Data, CheckWord::Polynomial) => play::<DataCall, Polynomial>(heap, script),
-        (CarrierWord::Data, CheckWord::Sum) => play::<DataCall, Sum>(heap, script),
-        (CarrierWord::Voice, CheckWord::Polynomial) => play::<VoiceAlongCall, Polynomial>(
+        (CarrierName::Data, CheckName::Polynomial) => play::<DataCall, Polynomial>(heap, script),
+        (CarrierName::Data, CheckName::Sum) => play::<DataCall, Sum>(heap, script),
+        (CarrierName::Voice, CheckName::Polynomial) => play::<VoiceAlongCall, Polynomial>(
             heap, script,
         ),
-        (CarrierWord::Voice, CheckWord::Sum) => play::<VoiceAlongCall, Sum>(heap, script),
+        (CarrierName::Voice, CheckName::Sum) => play::<VoiceAlongCall, Sum>(heap, script),
     }
 }
 
@@ -39,19 +44,13 @@ pub fn answer(heap: Global, input: &[u8]) -> Result<Vec<u8>, AllocError>
     ensures text { IfOk result (λ text. text.items ≡ answer_of input.now) }
     ensures tells { TellsHistory input.now }
 {
-    find_answer(heap, input)
-}
-
-// That text; `answer` adds what it means.
-fn find_answer(heap: Global, input: &[u8]) -> Result<Vec<u8>, AllocError>
-    ensures { IfOk result (λ text. text.items ≡ answer_of input.now) }
-{
-    match parse(heap, input)? {
+    match parse(heap, input) {
         Ok(script) => tell_drill(heap, &script),
-        Err(refused) => {
+        Err(ScriptError::Refused(refused)) => {
             let mut text = Vec::new(heap);
-            push_refused(&mut text, refused)?;
+            push_line(&mut text, Line::Refused(refused))?;
             Ok(text)
         }
+        Err(ScriptError::OutOfMemory(error)) => Err(error),
     }
 }

@@ -3,7 +3,8 @@ ghost use Rattle.std.specs.Prelude.{◌≡◌, IfOk};
 ghost use Rattle.play.specs.Stories.{told_of};
 ghost use Rattle.play.specs.Views.{asked_by};
 
-use crate::sending::{octets_of, send_all};
+use crate::scene::Scene;
+use crate::sending::octets_of;
 use crate::stage::Short;
 use air::airs::Schedule;
 use check32::Check;
@@ -27,36 +28,29 @@ pub(crate) fn play<C: Carrier, K: Check>(
 ) -> Result<Vec<u8>, AllocError>
     ensures { IfOk result (λ text. text.items ≡ told_of C.Carrier.terms K.Check.number (asked_by script.now)) }
 {
-    let mut text = Vec::new(heap);
-    let mut store = octets_of(heap, ROOM, 0)?;
-    let mut panel = octets_of(heap, ROOM, 0)?;
+    let mut scene = Scene {
+        store: octets_of(heap, ROOM, 0)?,
+        panel: octets_of(heap, ROOM, 0)?,
+        air: Schedule::new(&script.turns),
+        text: Vec::new(heap),
+    };
     let Ok(exchange) = Exchange::<C, K>::new(
         OWN,
         PEER,
         script.head.retries,
         script.head.serial,
-        &store,
+        &scene.store,
     ) else {
-        return Ok(text);
+        return Ok(scene.text);
     };
-    let mut air = Schedule::new(&script.turns);
-    match send_all(
-        heap,
-        &script.sends,
-        exchange,
-        &mut store,
-        &mut panel,
-        &mut air,
-        &mut text,
-    ) {
+    match scene.send_all(&script.sends, exchange) {
         Ok(stage) => {
             stage.retire();
-            Ok(text)
+            Ok(scene.text)
         }
-        Err(short) => {
-            let Short { stage } = short;
+        Err(Short { stage, error }) => {
             stage.retire();
-            Err(AllocError)
+            Err(error)
         }
     }
 }

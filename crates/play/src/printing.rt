@@ -1,47 +1,41 @@
 // The lines that a turn or a refusal adds to the text.
-ghost use Rattle.std.specs.Prelude.{◌≡◌, ℕ, List, [], ◌++◌, IfOk, OnOk};
+ghost use Rattle.std.specs.Prelude.{◌≡◌, ℕ, List, ◌++◌, IfOk, OnOk};
 ghost use Rattle.air.specs.declared.fate.Fate.{Fate};
 ghost use Rattle.agreement.specs.Histories as histories;
-ghost use Rattle.exchange.specs.Views.{add_up, ups_in, joined_in, brief_with};
+ghost use Rattle.exchange.specs.Views.{ups_in, joined_in, brief_with};
 ghost use Rattle.tell.specs.Printed.{report_line};
 ghost use Rattle.play.specs.Stories.{event_text};
 ghost use Rattle.play.specs.Views.{ups_lines, left_in, left_for};
 
 use crate::stage::{Short, Stage, Turn};
+use air::few::UpToThree;
 use check32::Check;
-use exchange::pair::{Next, Turned, Up, Ups};
+use exchange::pair::{Turned, Up};
 use fault::EndFault;
 use fragment::carrier::Carrier;
-use sender::values::Report;
+use sender::values::{Next, Report};
 use std::alloc::AllocError;
+use std::ops::ControlFlow;
 use tell::faults::{DrillFault, Refused};
-use tell::print::{push_refused, push_report, push_up};
-
-// What one hearing handed up, if anything.
-fn push_heard(text: &mut Vec<u8>, up: Option<Up>) -> Result<(), AllocError>
-    ensures { OnOk result (text.new.items ≡ text.old.items ++ ups_lines (add_up up [])) }
-{
-    match up {
-        Some(up) => push_up(text, up.serial, up.octets),
-        None => Ok(()),
-    }
-}
+use tell::print::{Line, push_line};
 
 // What the hearings of a turn handed up, in their order.
-fn push_ups(text: &mut Vec<u8>, ups: Ups) -> Result<(), AllocError>
+fn push_ups(text: &mut Vec<u8>, ups: UpToThree<Up>) -> Result<(), AllocError>
     ensures { OnOk result (text.new.items ≡ text.old.items ++ ups_lines (ups_in ups)) }
 {
-    push_heard(text, ups.first)?;
-    push_heard(text, ups.second)?;
-    push_heard(text, ups.third)
+    for up in ups {
+        let Up { serial, octets } = up;
+        push_line(text, Line::Up { serial, octets })?;
+    }
+    Ok(())
 }
 
 // What the last turn of a session handed up, and how the session ended.
-fn push_end(text: &mut Vec<u8>, ups: Ups, report: Report) -> Result<(), AllocError>
+fn push_end(text: &mut Vec<u8>, ups: UpToThree<Up>, report: Report) -> Result<(), AllocError>
     ensures { OnOk result (text.new.items ≡ text.old.items ++ (ups_lines (ups_in ups) ++ report_line report)) }
 {
     push_ups(text, ups)?;
-    push_report(text, report)
+    push_line(text, Line::Report(report))
 }
 
 // What a turn handed up, and the report if the session ended by it.
@@ -54,15 +48,17 @@ pub(crate) fn tell_turn<C: Carrier, K: Check>(
     let Turned { ups, next } = turned;
     match next {
         Next::On(transfer) => match push_ups(text, ups) {
-            Ok(()) => Ok(Turn::On(transfer)),
-            Err(_) => Err(Short {
+            Ok(()) => Ok(ControlFlow::Continue(transfer)),
+            Err(error) => Err(Short {
                 stage: Stage::Within(transfer),
+                error,
             }),
         },
         Next::Ended(report, exchange) => match push_end(text, ups, report) {
-            Ok(()) => Ok(Turn::Over(Stage::Between(exchange))),
-            Err(_) => Err(Short {
+            Ok(()) => Ok(ControlFlow::Break(Stage::Between(exchange))),
+            Err(error) => Err(Short {
                 stage: Stage::Between(exchange),
+                error,
             }),
         },
     }
@@ -78,14 +74,12 @@ pub(crate) fn tell_refused<C: Carrier, K: Check>(
     ensures same { IfOk result (λ y. y ≡ stage) }
     ensures after { OnOk result (text.new.items ≡ text.old.items ++ event_text line (histories.refused fault)) }
 {
-    match push_refused(
-        text,
-        Refused {
-            line,
-            fault: DrillFault::from(fault),
-        },
-    ) {
+    let refused = Refused {
+        line,
+        fault: DrillFault::from(fault),
+    };
+    match push_line(text, Line::Refused(refused)) {
         Ok(()) => Ok(stage),
-        Err(_) => Err(Short { stage }),
+        Err(error) => Err(Short { stage, error }),
     }
 }

@@ -2,6 +2,8 @@
 use check32::Check;
 use exchange::pair::{Exchange, Transfer};
 use fragment::carrier::Carrier;
+use std::alloc::AllocError;
+use std::ops::ControlFlow;
 
 // Between sessions, or within one.
 pub(crate) enum Stage<C, K> {
@@ -10,14 +12,12 @@ pub(crate) enum Stage<C, K> {
 }
 
 // After a turn: the session goes on, or is over for the drill.
-pub(crate) enum Turn<C, K> {
-    On(Transfer<C, K>),
-    Over(Stage<C, K>),
-}
+pub(crate) type Turn<C, K> = ControlFlow<Stage<C, K>, Transfer<C, K>>;
 
 // Memory is short: both ends are handed back, since an error may not let them go.
 pub(crate) struct Short<C, K> {
     pub(crate) stage: Stage<C, K>,
+    pub(crate) error: AllocError,
 }
 
 impl<C: Carrier, K: Check> Stage<C, K> {

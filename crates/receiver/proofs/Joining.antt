@@ -1,6 +1,7 @@
 -- When a selective packet fits the fragment that is being collected.
-use Rattle.std.proofs.Common.{◌≡◌, ℕ, zero, suc, ◌+◌, ◌<◌, ◌≤◌, Bool, true, cond, ◌&&◌, eqb, ◌⊎◌, ◌↔◌, List, Some, None, Ok, Option, refl, ap, ◌∙◌, subst, inl, inr, arith}
-use Rattle.std.proofs.lemmas.Bool.{cases_Bool, cases_order, both_ways, and_parts, and_from, eqb-true, eq-eqb, le-leb, leb-true, cond-true, cond-false}
+use Rattle.std.proofs.Common.{◌≡◌, ℕ, zero, suc, ◌+◌, ◌<◌, ◌≤◌, Bool, true, false, cond, ◌&&◌, eqb, ◌⊎◌, ◌↔◌, List, Some, None, Ok, Option, refl, ap, ◌∙◌, subst, inl, inr, arith, rules, tests}
+use Rattle.std.specs.Option.{MatchOption, option_map}
+use Rattle.std.proofs.lemmas.Bool.{cases_Bool, cases_order, both_ways, le-leb, leb-true, cond-true, cond-false}
 use Rattle.fragment.specs.Carriers.{Terms}
 use Rattle.packet.specs.declared.values.Header.{Header}
 use Rattle.packet.specs.Reading.{Block, block_at, record_place, read_of}
@@ -36,9 +37,26 @@ module _ (size : ℕ) (h : Header) (xs : List ℕ) (n : ℕ) where
             ])
       ]
 
+  -- What a search over the records found is where the first such record stands.
+  pub first-past : (r : Option ℕ) (k : ℕ) → k ≡ h.records
+      → MatchOption r ((j : ℕ) → 0 ≤ j → j < k → is_past n (block_at size h xs j) ≡ false)
+      (λ i. (0 ≤ i) × (i < k) × Past i × ((j : ℕ) → 0 ≤ j → j < i → is_past n (block_at size h xs j) ≡ false))
+      → past_from size h xs n h.records 0 ≡ option_map (record_place size) r
+  first-past None k e none =
+      elim (past-found h.records 0) [ inl f ↦ absurd (both_ways _ (none f.0 (omega arith) (omega (arith, f.2))) f.3) | inr f ↦ f.1 ]
+  first-past (Some i) k e (low, there, here, before) =
+      elim (past-found h.records 0) [
+        | inl f ↦
+            elim (cases_order f.0 i) [
+              | inl q ↦ f.5 ∙ ap (λ j. Some (record_place size j)) q
+              | inr o ↦ elim o [ inl l ↦ absurd (both_ways _ (before f.0 (omega arith) l) f.3) | inr l ↦ absurd (f.4 i (omega arith) l here) ]
+            ]
+        | inr f ↦ absurd (f.0 i (omega arith) (omega arith) here)
+      ]
+
 module _ (t : Terms) (xs : List ℕ) (h : Header) (read : read_of t xs ≡ Ok h) (n : ℕ) where
   past-block : (o : Option Block) → is_past n o ≡ true → (b : Block) × (o ≡ Some b) × (n ≤ b.number)
-  past-block None e = let z : ◌≡◌ {A = ℕ} 0 1 = cc in absurd (omega arith)
+  past-block None e = cc
   past-block (Some b) e = (b, refl, leb-true _ _ e)
 
   past_is : (i : ℕ) → Past t.block h xs n i ↔ PastLast t xs n i
@@ -84,27 +102,24 @@ module _ (h : Header) where
   joins g = h.selective && (eqb h.number g.number && same h.start g.start)
 
   joins-is : (g : Gathering) → joins g ≡ true → Joins (Collecting g) h g
-  joins-is g e =
-      let a = and_parts h.selective _ e in
-      let b = and_parts (eqb h.number g.number) (same h.start g.start) a.1 in
-      (refl, a.0, eqb-true _ _ b.0, same-is _ _ b.1)
+  joins-is g e = search (rules, tests, same-is)
 
   is-joins : (p : Phase) (g : Gathering) → Joins p h g → joins g ≡ true
-  is-joins p g j = and_from h.selective _ j.1 (and_from (eqb h.number g.number) _ (eq-eqb _ _ j.2) (is_same _ _ j.3))
+  is-joins p g j = search (rules, tests, is_same)
 
   pub joins-decided : (p : Phase) → ((g : Gathering) × Joins p h g) ⊎ ((g : Gathering) → Joins p h g → ⊥)
-  joins-decided Idle = inr (λ g j. let z : ◌≡◌ {A = ℕ} 0 1 = cc j.0 in omega arith)
+  joins-decided Idle = inr (λ g j. cc j.0)
   joins-decided (Collecting g) =
       elim (cases_Bool (joins g)) [
         | inl e ↦ inl (g, joins-is g e)
         | inr e ↦ inr (λ k j. let q : g ≡ k = cc j.0 in both_ways (joins g) e (rw (← q) at (is-joins (Collecting g) k j)))
       ]
-  joins-decided (Waiting v) = inr (λ g j. let z : ◌≡◌ {A = ℕ} 0 1 = cc j.0 in omega arith)
-  joins-decided Done = inr (λ g j. let z : ◌≡◌ {A = ℕ} 0 1 = cc j.0 in omega arith)
+  joins-decided (Waiting v) = inr (λ g j. cc j.0)
+  joins-decided Done = inr (λ g j. cc j.0)
 
   pub joins-unfit : (size : ℕ) (p : Phase) (xs : List ℕ) (g : Gathering) → Joins p h g
       → unfit_of size p xs h ≡ cond (eqb h.pad g.pad) (past_from size h xs g.blocks h.records 0) (Some 9)
-  joins-unfit size p xs g j = ap (λ (q : Phase). unfit_of size q xs h) j.0 ∙ cond-true (joins g) _ _ (is-joins p g j)
+  joins-unfit size p xs g j = rw j.0 (search (rules, tests, is_same))
 
   pub none-unfit : (size : ℕ) (p : Phase) (xs : List ℕ) → ((g : Gathering) → Joins p h g → ⊥) → unfit_of size p xs h ≡ None
   none-unfit size Idle xs none = refl

@@ -1,5 +1,5 @@
 -- What a packet's call promises, from what it answers and leaves.
-use Rattle.std.proofs.Common.{◌≡◌, ℕ, ◌^◌, ◌<◌, List, length, Ok, Err, Result, refl, ap, ◌∙◌, arith}
+use Rattle.std.proofs.Common.{◌≡◌, ℕ, ◌^◌, ◌<◌, List, length, Ok, Err, Result, refl, ap, ◌∙◌}
 use Rattle.fault.specs.declared.EndFault.{EndFault}
 use Rattle.fragment.specs.Carriers.{Terms, Sound}
 use Rattle.packet.specs.declared.values.Header.{Header}
@@ -36,7 +36,7 @@ module _ (t : Terms) (sound : Sound t) (number : List ℕ → ℕ) (small : (xs 
       → called r s' store' response' ≡ on_admitted t number way s store xs response a → RefusedKeeps r s s' store store' response response'
   refused-keeps (Ok h) r s' store' response' e fault q =
       let answer = ap (λ (c : Called). c.answer) e in
-      let z : ◌≡◌ {A = ℕ} 0 1 = cc in absurd (omega arith)
+      cc
   refused-keeps (Err other) r s' store' response' e fault q =
       (ap (λ (c : Called). c.state) e, ap (λ (c : Called). c.store) e, ap (λ (c : Called). c.response) e)
 

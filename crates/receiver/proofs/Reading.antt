@@ -1,14 +1,16 @@
 -- What is known of a packet that was read: its records are few, and its good blocks can be stored.
-use Rattle.std.proofs.Common.{◌≡◌, ℕ, ◌+◌, ◌<◌, ◌≤◌, Bool, true, ◌&&◌, ltb, leb, ◌⊎◌, List, length, get_or, take, drop, Some, None, Ok, sym, ap, ◌∙◌, subst, inl, inr, mul-le-mul_right, suc-mul, arith}
-use Rattle.std.proofs.lemmas.Bool.{cases_lt, cases_eq, cases_Bool, and_parts, and_from, eqb-true, eq-eqb, leb-true, le-leb, ltb-true, lt-ltb, cond-true, cond-false}
+use Rattle.std.proofs.Common.{◌≡◌, ℕ, ◌+◌, ◌<◌, ◌≤◌, Bool, ◌&&◌, ltb, leb, ◌⊎◌, List, length, get_or, take, drop, Some, None, Ok, sym, ap, subst, inl, inr, mul-le-mul_right, suc-mul, arith}
+use Rattle.std.proofs.lemmas.Bool.{cases_lt, cases_eq, eq-eqb, le-leb, lt-ltb}
+use Rattle.std.proofs.lemmas.Bool.Decides.{nat_tests}
 use Rattle.fragment.specs.Carriers.{Terms, Sound}
 use Rattle.packet.specs.declared.values.Header.{Header}
 use Rattle.packet.specs.Reading.{Block, block_at, is_good, record_place, read_of, header_at}
 use Rattle.packet.specs.Refusals.{Full, Selective, flags_at, records_at, number_at, GoodRecord, Headed, Whole, WrongRecord, other_flags, many_records, other_block, high_block}
-use Rattle.packet.proofs.Refusals.{else-false}
 use Rattle.packet.proofs.ReadRefusals.{packet-refusals}
 use Rattle.packet.proofs.Sealed.{length_part}
-use Rattle.receiver.specs.Whole.{Storable}
+use Rattle.packet.specs.Views.{Seen, seen_of}
+use Rattle.receiver.specs.Whole.{Storable, Admitted}
+use Rattle.receiver.proofs.Admitting.{seen-is}
 
 -- A header that is right has flags of a full or of a selective packet.
 pub full-or-selective : (t : Terms) (xs : List ℕ) → Headed t xs → Full xs ⊎ Selective xs
@@ -43,17 +45,7 @@ is_there size h xs i = ltb i h.records && (leb (record_place size i + 3 + size) 
 -- The block that a record gives stands in its place.
 pub block-is : (size : ℕ) (h : Header) (xs : List ℕ) (i : ℕ) (b : Block) → block_at size h xs i ≡ Some b
     → (i < h.records) × (record_place size i + 3 + size ≤ length xs) × (get_or xs (record_place size i + 2) 0 ≡ 0) × (b ≡ found_at size xs i)
-block-is size h xs i b e =
-    elim (cases_Bool (is_there size h xs i)) [
-      | inl q ↦
-          (let a = and_parts (ltb i h.records) _ q in
-          let c = and_parts (leb (record_place size i + 3 + size) (length xs)) _ a.1 in
-          let s : Some (found_at size xs i) ≡ Some b = sym (cond-true (is_there size h xs i) (Some (found_at size xs i)) None q) ∙ e in
-          (ltb-true i h.records a.0, leb-true _ _ c.0, eqb-true _ 0 c.1, (let z : found_at size xs i ≡ b = cc in sym z)))
-      | inr q ↦
-          (let s : None ≡ Some b = sym (cond-false (is_there size h xs i) (Some (found_at size xs i)) None q) ∙ e in
-          let z : ◌≡◌ {A = ℕ} 0 1 = cc in absurd (omega arith))
-    ]
+block-is size h xs i b e = grind (arith, nat_tests)
 
 module _ (t : Terms) (xs : List ℕ) (h : Header) (read : read_of t xs ≡ Ok h) where
   pub known : (h ≡ header_at xs) × Headed t xs × Whole t xs × ((place : ℕ) → WrongRecord t xs place → ⊥)
@@ -70,15 +62,12 @@ module _ (t : Terms) (xs : List ℕ) (h : Header) (read : read_of t xs ≡ Ok h)
   block-there i l good =
       let records = ap (λ (k : Header). k.records) known.0 in
       let m = mul-le-mul_right (t.block + 3) l in
-      let there : is_there t.block h xs i ≡ true =
-      and_from (ltb i h.records) _ (lt-ltb i h.records (omega arith))
-      (and_from (leb (record_place t.block i + 3 + t.block) (length xs)) _ (le-leb _ _ (omega (arith, known.2, suc-mul i (t.block + 3)))) (eq-eqb _ 0 good)) in
-      cond-true (is_there t.block h xs i) _ None there
+      let there : i < h.records = omega arith in
+      let room : record_place t.block i + 3 + t.block ≤ length xs = omega (arith, known.2, suc-mul i (t.block + 3)) in
+      rw (lt-ltb i h.records there, le-leb _ _ room, eq-eqb _ 0 good)
 
   pub block-bad : (i : ℕ) → (GoodRecord t xs i → ⊥) → block_at t.block h xs i ≡ None
-  block-bad i bad =
-      cond-false (is_there t.block h xs i) _ None
-      (else-false _ (λ e. bad (eqb-true _ 0 (and_parts (leb (record_place t.block i + 3 + t.block) (length xs)) _ (and_parts (ltb i h.records) _ e).1).1)))
+  block-bad i bad = grind (arith, nat_tests)
 
   pub low : (i : ℕ) → i < records_at xs → get_or xs (record_place t.block i + 2) 0 ≡ 0 → number_at t xs i < 16
   low i l good =
@@ -103,3 +92,13 @@ module _ (t : Terms) (xs : List ℕ) (h : Header) (read : read_of t xs ≡ Ok h)
               subst (λ (c : Block). length c.octets ≡ t.block) (sym k.3) (length_part xs (record_place t.block i + 3) t.block k.1),
             );
       }
+
+-- A packet that was read can be heard.
+pub seen-admitted : (t : Terms) → Sound t → (xs : List ℕ) (p : Seen) → Ok p ≡ seen_of t xs → Admitted t p.size p.header p.octets
+seen-admitted t sound xs p seen =
+    let s = seen-is t xs (read_of t xs) p seen in
+    record {
+      records = read-few t xs p.header s.0;
+      sized = s.1;
+      storable = rw (s.1, s.2) (storable t xs p.header s.0 sound);
+    }

@@ -46,8 +46,7 @@ module _ (t : Terms) (route : Route) (phase : Phase) (xs : List ℕ) (room : ℕ
     of_fragment : n ≡ 13 → Misfit p → Cause n p
 
   read_number : (n p : ℕ) → Refused (read_of t xs) n p → (3 ≤ n) × (n ≤ 5)
-  read_number n p h =
-      elim ((packet-refusals t xs).no_other n p h) [ inl e ↦ (omega arith, omega arith) | inr o ↦ elim o [ inl e ↦ (omega arith, omega arith) | inr e ↦ (omega arith, omega arith) ] ]
+  read_number n p h = let o = (packet-refusals t xs).no_other n p h in grind arith
 
   -- What is answered once the route is right.
   when-routed : (h : Header) → ReadWith t xs room h → FromPeer route h → ToHere route h → (o : Option ℕ) → unfit_of t.block phase xs h ≡ o

@@ -1,16 +1,17 @@
 -- The block store: places, what is missing, and the loop over a packet's records.
-use Rattle.std.proofs.Common.{◌≡◌, ℕ, suc, ◌+◌, ◌-◌, ◌*◌, ◌^◌, ◌<◌, ◌≤◌, Bool, true, false, cond, List, [], ◌∷◌, Some, sum_by, filter, Option, refl, ap, ◌∙◌, suc-mul, mul-le-mul, pow-suc, zero-add, add-one, arith}
+use Rattle.std.proofs.Common.{◌≡◌, ℕ, suc, ◌+◌, ◌-◌, ◌*◌, ◌^◌, ◌<◌, ◌≤◌, Bool, true, false, cond, List, [], ◌∷◌, sum_by, filter, Option, refl, ap, ◌∙◌, zero-add, arith}
 use Rattle.std.specs.List.{range_with_len}
+use Rattle.std.proofs.lemmas.Grind.{common_steps}
 use Rattle.std.proofs.lemmas.List.Sums.{sum_by-append}
 use Rattle.packet.specs.declared.values.Header.{Header}
-use Rattle.packet.specs.Reading.{Block, block_at, record_place}
+use Rattle.packet.specs.Reading.{Block, block_at}
 use Rattle.packet.proofs.Sets.{kept_more}
 use Rattle.receiver.specs.declared.state.BlockStore.{BlockStore}
-use Rattle.receiver.specs.Store.{put_of, put_in, filled_from, is_past, past_from}
+use Rattle.receiver.specs.Store.{put_of, put_in, filled_from}
 
 -- Block j of at most 20 octets lies within the store.
 pub block_within : (j n : ℕ) → j < 16 → n ≤ 20 → j * n + n ≤ 320
-block_within j n h l = let m = mul-le-mul h l in omega (arith, suc-mul j n)
+block_within j n h l = grind arith
 
 -- One block further: its flag is added where it is asked for.
 pub flags-more : (p : ℕ → Bool) (j : ℕ) (b : Bool) → p j ≡ b
@@ -25,7 +26,7 @@ flags-more p j b e =
     one false = refl
 
 pub doubled : (j : ℕ) → 2 ^ (j + 1) ≡ 2 ^ j + 2 ^ j
-doubled j = ap (λ k. 2 ^ k) (add-one j) ∙ pow-suc 2 j ∙ (omega arith)
+doubled j = grind (arith, common_steps)
 
 -- One record further.
 pub filled_more : (size : ℕ) (h : Header) (xs : List ℕ) (k i : ℕ) (b : Option Block) (s s' : BlockStore) → i < k → b ≡ block_at size h xs i → s' ≡ put_in size b s
@@ -37,20 +38,3 @@ filled_more size h xs k i b s s' l e q =
 -- A block of the carrier's size, put by its number.
 pub put_same : (size n number : ℕ) (b : Block) (s : BlockStore) → n ≡ size → number ≡ b.number → put_of n (record { number = number; octets = b.octets }) s ≡ put_of size b s
 put_same size n number b s e q = rw (e, q)
-
--- Sixteen blocks of at most 20 octets.
-pub image-within : (n size k b : ℕ) → k ≡ n → b ≡ size → n ≤ 16 → size ≤ 20 → k * b ≤ 320
-image-within n size k b e q h l = rw (e, q) (mul-le-mul h l)
-
--- One record further in the search for a block past the last: it is here, or it is searched for on.
-module _ (size : ℕ) (h : Header) (xs : List ℕ) (n k i : ℕ) (b : Option Block) (all : Option ℕ) (l : i < k) (e : b ≡ block_at size h xs i) (inv : past_from size h xs n (k - i) i ≡ all) where
-  turn : cond (is_past n b) (Some (record_place size i)) (past_from size h xs n (k - (i + 1)) (i + 1)) ≡ all
-  turn =
-      let s : k - i ≡ suc (k - (i + 1)) = omega arith in
-      rw e (rw s at inv)
-
-  pub past-here : is_past n b ≡ true → Some (record_place size i) ≡ all
-  past-here q = rw q at turn
-
-  pub past-on : is_past n b ≡ false → past_from size h xs n (k - (i + 1)) (i + 1) ≡ all
-  past-on q = rw q at turn

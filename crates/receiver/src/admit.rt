@@ -1,9 +1,10 @@
 // Every refusal of a packet, before anything is changed.
-ghost use Rattle.std.specs.Prelude.{◌≡◌, ℕ, ◌+◌, ◌*◌, ◌<◌, ◌≤◌, length};
+ghost use Rattle.std.specs.Prelude.{◌≡◌, ℕ, ◌+◌, ◌*◌, ◌<◌, ◌≤◌, length, IfOk};
 ghost use Rattle.packet.specs.Views.{Seen};
 ghost use Rattle.receiver.specs.Store.{past_from};
 ghost use Rattle.receiver.specs.Calls.{unfit_of, admitted_of};
 ghost use Rattle.receiver.specs.Views.{admitted_in};
+ghost use Rattle.receiver.specs.Whole.{Admitted};
 
 use crate::state::Phase;
 use fault::{EndFault, PacketFault};
@@ -17,16 +18,9 @@ use packet::write::{HEADER_OCTETS, RECORD_OCTETS};
 fn past(packet: &Packet, blocks: u8) -> Option<usize>
     ensures { result ≡ past_from packet.now.size packet.now.header packet.now.octets.now blocks packet.now.header.records 0 }
 {
-    for i in 0..packet.header.records {
-        if let Some(block) = packet.block(usize::from(i)) {
-            if block.number >= blocks {
-                return Some(
-                    HEADER_OCTETS + usize::from(i) * (usize::from(packet.size) + RECORD_OCTETS),
-                );
-            }
-        }
-    }
-    None
+    let is_past = |i: &usize| packet.block(*i).is_some_and(|block| block.number >= blocks);
+    let i = (0..usize::from(packet.header.records)).find(is_past)?;
+    Some(HEADER_OCTETS + i * (usize::from(packet.size) + RECORD_OCTETS))
 }
 
 // Where a selective packet does not fit the fragment that is being collected.
@@ -53,10 +47,11 @@ pub(crate) fn admit<'a, C: Carrier>(
     octets: &'a [u8],
     room: usize,
 ) -> Result<Packet<'a>, EndFault>
-    ensures { admitted_in result ≡ admitted_of C.Carrier.terms route phase octets.now room }
+    ensures value { admitted_in result ≡ admitted_of C.Carrier.terms route phase octets.now room }
+    ensures admitted { IfOk result (λ p. Admitted C.Carrier.terms p.size p.header p.octets.now) }
 {
     if room < HEADER_OCTETS {
-        return Err(EndFault::Packet(PacketFault::Buffer));
+        return Err(PacketFault::Buffer.into());
     }
     let packet = read_packet::<C>(octets)?;
     if packet.header.route.source != route.destination {

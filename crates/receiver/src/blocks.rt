@@ -1,15 +1,20 @@
 // The block store.
 ghost use Rattle.std.specs.Prelude.{◌≡◌, ℕ, ◌+◌, ◌-◌, ◌*◌, ◌<◌, ◌≤◌, Bool, true, false, length, take, drop};
-ghost use Rattle.fragment.specs.Streams.{four_at};
-ghost use Rattle.packet.specs.Octets.{over};
 ghost use Rattle.packet.specs.Reading.{block_at};
-ghost use Rattle.receiver.specs.Store.{fresh, anew, put_of, filled_by, missing_of};
+ghost use Rattle.receiver.specs.Store.{fresh, anew, put_of, filled_by, missing_of, check_place, check_in};
 ghost use Rattle.receiver.specs.Whole.{Storable};
 
 use crate::state::BlockStore;
-use check32::{Check, number_of};
+use fragment::carrier::{CHECK_OCTETS, Carrier};
 use packet::packets::Packet;
 use packet::values::BlockSet;
+
+// An image in the block store: its data and pad, and the check that it brings.
+#[derive(Drop)]
+pub(crate) struct Image<'a> {
+    pub(crate) octets: &'a [u8],
+    pub(crate) check: u32,
+}
 
 impl BlockStore {
     pub(crate) fn new() -> BlockStore
@@ -44,8 +49,9 @@ impl BlockStore {
         requires { Storable packet.now.size packet.now.header packet.now.octets.now }
         ensures { self.new ≡ filled_by packet.now.size packet.now.header packet.now.octets.now self.old }
     {
-        for i in 0..packet.header.records {
-            if let Some(block) = packet.block(usize::from(i)) {
+        // By number: over an iterator of the records the proof was as long.
+        for i in 0..usize::from(packet.header.records) {
+            if let Some(block) = packet.block(i) {
                 self.put(usize::from(block.number), block.octets);
             }
         }
@@ -57,41 +63,26 @@ impl BlockStore {
         ensures { result ≡ missing_of blocks self.now }
     {
         let mut flags: u16 = 0;
-        for j in 0..blocks {
-            if !self.held[usize::from(j)] {
+        for (j, held) in self.held[..usize::from(blocks)].iter().enumerate() {
+            if !held {
                 flags += 1 << j;
             }
         }
         BlockSet(flags)
     }
 
-    // The check that an image of so many octets less the check brings.
-    pub(crate) fn check_at(&self, end: usize) -> u32
-        requires { end + 4 ≤ 320 }
-        ensures { result ≡ four_at (drop end self.now.octets) }
+    // The image of so many blocks.
+    pub(crate) fn image<C: Carrier>(&self, blocks: u8) -> Image<'_>
+        requires { blocks ≤ 16 }
+        ensures octets { result.octets.now ≡ take (check_place C.Carrier.terms.block blocks) self.now.octets }
+        ensures length { length result.octets.now ≡ check_place C.Carrier.terms.block blocks }
+        ensures check { result.check ≡ check_in C.Carrier.terms.block blocks self.now }
     {
-        u32::from_be_bytes([
-            self.octets[end],
-            self.octets[end + 1],
-            self.octets[end + 2],
-            self.octets[end + 3],
-        ])
-    }
-
-    // The check of its first octets.
-    pub(crate) fn number<K: Check>(&self, end: usize) -> u32
-        requires { end ≤ 320 }
-        ensures { result ≡ K.Check.number (take end self.now.octets) }
-    {
-        number_of::<K>(&self.octets[0..end])
-    }
-
-    // Copies the first octets into the part of a store from a place on.
-    pub(crate) fn copy_to(&self, store: &mut [u8], place: usize, octets: usize)
-        requires few { octets ≤ 320 }
-        requires room { place + octets ≤ length store.old }
-        ensures { store.new ≡ over place (take octets self.now.octets) store.old }
-    {
-        store[place..place + octets].copy_from_slice(&self.octets[0..octets]);
+        let end = (usize::from(blocks) * C::block_size()).saturating_sub(CHECK_OCTETS);
+        let (octets, behind) = self.octets.split_at(end);
+        Image {
+            octets,
+            check: u32::from_be_bytes(*behind.first_chunk().unwrap()),
+        }
     }
 }

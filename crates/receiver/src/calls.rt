@@ -1,6 +1,6 @@
 // The calls of a receiver: a packet comes, the wait runs out, a message is read.
 ghost use Rattle.std.specs.Prelude.{◌≡◌, ℕ, ◌+◌, ◌≤◌, true, length, IfOk};
-ghost use Rattle.receiver.specs.Whole.{Storable};
+ghost use Rattle.receiver.specs.Whole.{Admitted};
 ghost use Rattle.receiver.specs.Few.{few_in};
 ghost use Rattle.receiver.specs.Fill.{after, heard_of};
 ghost use Rattle.receiver.specs.Calls.{made_of, called, call_of, expired, part_of};
@@ -13,30 +13,26 @@ use crate::state::{Act, BlockStore, Event, HandUp, Heard, Phase, State};
 use check32::Check;
 use fault::EndFault;
 use fragment::carrier::Carrier;
+use fragment::cutting::SERIAL_OCTETS;
 use packet::packets::Packet;
 use packet::response::write_response;
 use packet::values::{Code, Response, Route};
 use std::marker::PhantomData;
 
 // The fewest octets of a message store: a serial and one octet.
-const LEAST_STORE: usize = 5;
+const LEAST_STORE: usize = SERIAL_OCTETS + 1;
 
 impl State {
     // A packet that is not refused.
     fn hear<C: Carrier, K: Check>(&mut self, store: &mut [u8], packet: &Packet) -> Heard
         requires few { few_in self.old.phase ≡ true }
-        requires records { packet.now.header.records ≤ 16 }
-        requires size { packet.now.size ≡ C.Carrier.terms.block }
-        requires storable { Storable packet.now.size packet.now.header packet.now.octets.now }
+        requires admitted { Admitted C.Carrier.terms packet.now.size packet.now.header packet.now.octets.now }
         ensures value { after self.new store.new result ≡ heard_of C.Carrier.terms K.Check.number self.old store.old packet.now.header packet.now.octets.now }
         ensures few { few_in self.new.phase ≡ true }
     {
-        match self.meet(Event::of(packet.header)) {
-            Act::Rest => Heard {
-                code: Code::Ack,
-                up: None,
-            },
-            Act::Answer(code) => Heard { code, up: None },
+        match self.meet(Event::from(packet.header)) {
+            Act::Rest => Heard::only(Code::Ack),
+            Act::Answer(code) => Heard::only(code),
             Act::Fill(g) => {
                 self.blocks.fill(packet);
                 self.finish::<C, K>(store, g)
@@ -112,12 +108,8 @@ impl<C: Carrier, K: Check> Receiver<C, K> {
 pub fn message_in(store: &[u8], up: HandUp) -> &[u8]
     ensures { result.now ≡ part_of store.now up.place up.length }
 {
-    let octets = store.len();
-    let place = up.place;
-    let length = up.length;
-    if place <= octets && length <= octets - place {
-        &store[place..place + length]
-    } else {
-        &store[0..0]
-    }
+    store
+        .get(up.place..)
+        .and_then(|rest| rest.get(..up.length))
+        .unwrap_or(&[])
 }

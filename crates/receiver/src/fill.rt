@@ -1,35 +1,35 @@
 // What follows once the good blocks of a packet are in.
-ghost use Rattle.std.specs.Prelude.{◌≡◌, ℕ, ◌+◌, ◌-◌, ◌*◌, ◌<◌, ◌≤◌, length, Some, None};
-ghost use Rattle.receiver.specs.Store.{check_place};
-ghost use Rattle.receiver.specs.Fill.{after, is_last, serial_in, completed, appended, finished};
+ghost use Rattle.std.specs.Prelude.{◌≡◌, ℕ, ◌+◌, ◌-◌, ◌*◌, ◌<◌, ◌≤◌, length, Some, None, MatchOption};
+ghost use Rattle.packet.specs.Octets.{over};
+ghost use Rattle.receiver.specs.Fill.{after, serial_in, completed, finished};
 
 use crate::state::{Gathering, HandUp, Heard, Last, Phase, State};
-use check32::Check;
-use fragment::carrier::{CHECK_OCTETS, Carrier};
+use check32::{Check, number_of};
+use fragment::carrier::Carrier;
+use fragment::cutting::SERIAL_OCTETS;
 use fragment::stream::split_stream;
-use packet::values::Code;
+use packet::values::{BlockSet, Code};
 
 // The serial at the front of a message store.
 fn serial_of(store: &[u8]) -> u32
     ensures { result ≡ serial_in store.now }
 {
-    match split_stream(store) {
-        Some(joined) => joined.serial,
-        None => 0,
-    }
+    split_stream(store).map_or(0, |joined| joined.serial)
 }
 
-// Where the check of an image of so many blocks begins.
-fn check_place<C: Carrier>(blocks: u8) -> usize
-    requires { blocks ≤ 16 }
-    ensures value { result ≡ check_place C.Carrier.terms.block blocks }
-    ensures bound { result + 4 ≤ 320 }
+// Octets go behind those that a message store holds: how many it holds then, or none where there is no room.
+fn append(store: &mut [u8], filled: usize, octets: &[u8]) -> Option<usize>
+    ensures { MatchOption result ((store.new ≡ store.old) × (length store.old < filled + length octets.now)) (λ n. (n ≡ filled + length octets.now) × (n ≤ length store.old) × (store.new ≡ over filled octets.now store.old)) }
 {
-    (usize::from(blocks) * C::block_size()).saturating_sub(CHECK_OCTETS)
+    let end = filled
+        .checked_add(octets.len())
+        .filter(|end| *end <= store.len())?;
+    store[filled..end].copy_from_slice(octets);
+    Some(end)
 }
 
 impl Heard {
-    fn only(code: Code) -> Heard
+    pub(crate) fn only(code: Code) -> Heard
         ensures { result ≡ record { code = code; up = None } }
     {
         Heard { code, up: None }
@@ -37,50 +37,28 @@ impl Heard {
 }
 
 impl State {
-    fn handed_up_last(&self, serial: u32, check: u32) -> bool
-        ensures { result ≡ is_last self.now.last serial check }
-    {
-        match self.last {
-            None => false,
-            Some(last) => last.serial == serial && last.check == check,
-        }
-    }
-
-    // The message is whole.
+    // The message is whole: it is handed up, unless it is one fragment and was handed up last.
     fn complete(&mut self, store: &[u8], filled: usize, check: u32, g: Gathering) -> Heard
         ensures { after self.new store.now result ≡ completed self.old store.now filled check g }
     {
-        let serial = serial_of(store);
+        let last = Last {
+            serial: serial_of(store),
+            check,
+        };
         self.phase = Phase::Done;
         self.filled = filled;
-        if g.start && self.handed_up_last(serial, check) {
+        if g.start && self.last == Some(last) {
             return Heard::only(Code::Ack);
         }
-        self.last = Some(Last { serial, check });
+        self.last = Some(last);
         Heard {
             code: Code::Ack,
             up: Some(HandUp {
-                serial,
-                place: 4,
-                length: filled.saturating_sub(4),
+                serial: last.serial,
+                place: SERIAL_OCTETS,
+                length: filled.saturating_sub(SERIAL_OCTETS),
             }),
         }
-    }
-
-    // The data goes behind what the message store holds.
-    fn append(&mut self, store: &mut [u8], octets: usize, check: u32, g: Gathering) -> Heard
-        requires few { octets ≤ 320 }
-        requires room { self.old.filled + octets ≤ length store.old }
-        ensures { after self.new store.new result ≡ appended self.old store.old octets check g }
-    {
-        self.blocks.copy_to(store, self.filled, octets);
-        let filled = self.filled + octets;
-        if g.number == 0 {
-            return self.complete(store, filled, check, g);
-        }
-        self.phase = Phase::Waiting(g.number);
-        self.filled = filled;
-        Heard::only(Code::Ack)
     }
 
     // What follows once the good blocks of a packet for this fragment are in.
@@ -89,16 +67,16 @@ impl State {
         ensures { after self.new store.new result ≡ finished C.Carrier.terms K.Check.number self.old store.old g }
     {
         let missing = self.blocks.missing(g.blocks);
-        if missing.0 != 0 {
+        if missing != BlockSet(0) {
             if C::has_selective_retry() {
                 return Heard::only(Code::AckSelective(missing));
             }
             self.idle();
             return Heard::only(Code::FullRetry);
         }
-        let end = check_place::<C>(g.blocks);
-        let check = self.blocks.check_at(end);
-        if self.blocks.number::<K>(end) != check {
+        let image = self.blocks.image::<C>(g.blocks);
+        let check = image.check;
+        if number_of::<K>(image.octets) != check {
             if C::has_selective_retry() {
                 self.blocks.renew();
             } else {
@@ -106,11 +84,16 @@ impl State {
             }
             return Heard::only(Code::FullRetry);
         }
-        let octets = end.saturating_sub(usize::from(g.pad));
-        if self.filled > store.len() || octets > store.len() - self.filled {
+        let octets = image.octets.len().saturating_sub(usize::from(g.pad));
+        let Some(filled) = append(store, self.filled, &image.octets[..octets]) else {
             self.idle();
             return Heard::only(Code::OutOfStep);
+        };
+        if g.number == 0 {
+            return self.complete(store, filled, check, g);
         }
-        self.append(store, octets, check, g)
+        self.phase = Phase::Waiting(g.number);
+        self.filled = filled;
+        Heard::only(Code::Ack)
     }
 }

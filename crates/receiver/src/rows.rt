@@ -2,7 +2,6 @@
 ghost use Rattle.std.specs.Prelude.{◌≡◌};
 ghost use Rattle.receiver.specs.Rows.{idle, blocks_anew, lost, filling, row, row_of, full_row, stray, gathering, event_of};
 ghost use Rattle.receiver.specs.declared.state.Phase.TheVariants.{Collecting, Waiting};
-ghost use Rattle.receiver.specs.declared.state.Act.TheVariants.{Rest};
 
 use crate::state::{Act, Event, Gathering, Phase, State};
 use packet::values::{Code, Header};
@@ -21,10 +20,11 @@ impl Gathering {
     }
 }
 
-impl Event {
-    pub(crate) fn of(header: Header) -> Event
-        ensures { result ≡ event_of header }
-    {
+// What a packet with this header is to a receiver.
+impl From<Header> for Event {
+    ghost from_gives = { λ header event. event ≡ event_of header };
+
+    fn from(header: Header) -> Event {
         if header.selective {
             Event::Selective(header)
         } else if header.start {
@@ -58,13 +58,6 @@ impl State {
         } else {
             self.lose()
         }
-    }
-
-    fn expire(&mut self) -> Act
-        ensures { row self.new result ≡ row (idle self.old) Rest }
-    {
-        self.idle();
-        Act::Rest
     }
 
     // Sets out to collect a fragment.
@@ -102,7 +95,7 @@ impl State {
     {
         if h.number == v {
             Act::Answer(Code::Ack)
-        } else if v > 0 && h.number == v - 1 {
+        } else if h.number.checked_add(1) == Some(v) {
             self.collect_anew(Gathering::of(false, h))
         } else {
             self.lose()
@@ -119,33 +112,19 @@ impl State {
             }
             (Event::Full(h), Phase::Collecting(g)) => self.full_collecting(h, g),
             (Event::Full(h), Phase::Waiting(v)) => self.full_waiting(h, v),
-            (Event::Full(h), Phase::Done) => if h.number == 0 {
+            (Event::Selective(h), Phase::Collecting(g))
+                if h.number == g.number && h.start == g.start => { self.collect(g) }
+            (Event::Selective(h), Phase::Waiting(v)) if h.number == v => Act::Answer(Code::Ack),
+            (Event::Full(h) | Event::Selective(h), Phase::Done) if h.number == 0 => {
                 Act::Answer(Code::Ack)
-            } else {
-                self.lose()
-            },
-            (Event::Full(_), Phase::Idle) => self.lose(),
-            (Event::Selective(h), Phase::Collecting(g)) => {
-                if h.number == g.number && h.start == g.start {
-                    self.collect(g)
-                } else {
-                    self.stray(h)
-                }
             }
-            (Event::Selective(h), Phase::Waiting(v)) => if h.number == v {
-                Act::Answer(Code::Ack)
-            } else {
-                self.stray(h)
-            },
-            (Event::Selective(h), Phase::Done) => if h.number == 0 {
-                Act::Answer(Code::Ack)
-            } else {
-                self.stray(h)
-            },
-            (Event::Selective(h), Phase::Idle) => self.stray(h),
-            (Event::Expiry, Phase::Collecting(_)) => self.expire(),
-            (Event::Expiry, Phase::Waiting(_)) => self.expire(),
-            (Event::Expiry, _) => Act::Rest,
+            (Event::Full(_), _) => self.lose(),
+            (Event::Selective(h), _) => self.stray(h),
+            (Event::Expiry, Phase::Collecting(_) | Phase::Waiting(_)) => {
+                self.idle();
+                Act::Rest
+            }
+            (Event::Expiry, Phase::Idle | Phase::Done) => Act::Rest,
         }
     }
 }

@@ -1,7 +1,7 @@
 // What a receiver holds, as plain values.
 use packet::values::{Code, Header};
 
-// The octets of sixteen blocks, and which of them are held.
+// The octets of sixteen blocks, one behind the other since a check runs over them, and which of them are held: a panel has no heap.
 #[derive(Clone, Copy)]
 pub struct BlockStore {
     pub octets: [u8; 320],

@@ -5,8 +5,8 @@ use Rattle.std.proofs.lemmas.Bool.{cond-true, cond-false, cond_both, not-true, n
 use Rattle.std.specs.Option.{ok_or, option_map, option_or}
 use Rattle.air.specs.declared.fate.Alteration.{Alteration}
 use Rattle.air.specs.declared.fate.Hearing.{Hearing}
-use Rattle.air.specs.declared.fate.Hearings.{Hearings}
-use Rattle.air.specs.declared.fate.Hearings.TheVariants.{Silent, Once, Twice, Thrice}
+use Rattle.air.specs.declared.few.UpToThree.{UpToThree}
+use Rattle.air.specs.declared.few.UpToThree.TheVariants.{Empty, One, Two, Three}
 use Rattle.fault.specs.declared.EndFault.TheVariants.{Retries}
 use Rattle.packet.specs.Reading.{and_then}
 use Rattle.tell.specs.declared.faults.DrillFault.{DrillFault}
@@ -14,10 +14,10 @@ use Rattle.tell.specs.declared.faults.DrillFault.TheVariants.{End}
 use Rattle.tell.specs.declared.faults.Refused.{Refused}
 use Rattle.script.specs.declared.forms.Form.{Form}
 use Rattle.script.specs.declared.forms.Form.TheVariants as form
-use Rattle.script.specs.declared.values.CarrierWord.{CarrierWord}
-use Rattle.script.specs.declared.values.CarrierWord.TheVariants.{Data, Voice}
-use Rattle.script.specs.declared.values.CheckWord.{CheckWord}
-use Rattle.script.specs.declared.values.CheckWord.TheVariants.{Polynomial, Sum}
+use Rattle.fragment.specs.declared.name.CarrierName.{CarrierName}
+use Rattle.fragment.specs.declared.name.CarrierName.TheVariants.{Data, Voice}
+use Rattle.check32.specs.declared.name.CheckName.{CheckName}
+use Rattle.check32.specs.declared.name.CheckName.TheVariants.{Polynomial, Sum}
 use Rattle.script.specs.declared.values.Head.{Head}
 use Rattle.script.specs.declared.values.Message.{Message}
 use Rattle.tell.specs.Faults.{wrong}
@@ -96,12 +96,12 @@ hearing-line h line fits l =
     (bad-line h.bad _ (alteration-line h.alteration _ (and_parts _ (alteration_fits h.alteration) fits).1
     (word_line h.reply (codes " (reply)") _ refl (plain-before (codes ")") line refl l))))
 
-hearings-line : (hs : Hearings) → hearings_fit hs ≡ true → IsLine (hearings_before hs line_end)
-hearings-line Silent fits = line-end
-hearings-line (Once a) fits = hearing-line a line_end fits line-end
-hearings-line (Twice a b) fits =
+hearings-line : (hs : UpToThree Hearing) → hearings_fit hs ≡ true → IsLine (hearings_before hs line_end)
+hearings-line Empty fits = line-end
+hearings-line (One a) fits = hearing-line a line_end fits line-end
+hearings-line (Two a b) fits =
     let parts = and_parts (hearing_fits a) (hearing_fits b) fits in hearing-line a _ parts.0 (hearing-line b line_end parts.1 line-end)
-hearings-line (Thrice a b c) fits =
+hearings-line (Three a b c) fits =
     let one = and_parts (hearing_fits a) _ fits in
     let two = and_parts (hearing_fits b) (hearing_fits c) one.1 in
     hearing-line a _ one.0 (hearing-line b _ two.0 (hearing-line c line_end two.1 line-end))
@@ -143,19 +143,19 @@ forms-back number (f ∷ forms) fits =
 
 -- The first four lines
 
-carrier-back : (c : CarrierWord) → carrier_of (carrier_line c) ≡ Some c
+carrier-back : (c : CarrierName) → carrier_of (carrier_line c) ≡ Some c
 carrier-back Data = refl
 carrier-back Voice = refl
 
-check-back : (k : CheckWord) → check_of (check_line k) ≡ Some k
+check-back : (k : CheckName) → check_of (check_line k) ≡ Some k
 check-back Polynomial = refl
 check-back Sum = refl
 
-carrier-line : (c : CarrierWord) → IsLine (carrier_line c)
+carrier-line : (c : CarrierName) → IsLine (carrier_line c)
 carrier-line Data rest = refl
 carrier-line Voice rest = refl
 
-check-line : (k : CheckWord) → IsLine (check_line k)
+check-line : (k : CheckName) → IsLine (check_line k)
 check-line Polynomial rest = refl
 check-line Sum rest = refl
 
@@ -176,7 +176,7 @@ drill-lines head forms r s =
 
 -- The whole text
 
-abbrev head_by : Option CarrierWord → Option CheckWord → Result ℕ DrillFault → Option ℕ → Result Head Refused
+abbrev head_by : Option CarrierName → Option CheckName → Result ℕ DrillFault → Option ℕ → Result Head Refused
 head_by carrier check retries serial =
     and_then (ok_or carrier (wrong 1)) (λ c.
     and_then (ok_or check (wrong 2)) (λ k.

@@ -1,5 +1,6 @@
 -- What is read as a drill is written as that drill.
 use Rattle.std.proofs.Common.{◌≡◌, ℕ, ◌+◌, ◌≤◌, true, cond, eqb, leb, List, [], ◌∷◌, ◌++◌, length, get_or, drop, Some, None, Ok, Err, codes, Option, Result, refl, ap, ◌∙◌, subst, inl, inr, append_assoc, arith}
+use Rattle.std.proofs.lemmas.Option.{same_Some, none-some}
 use Rattle.std.proofs.lemmas.Slice.Eq.{bytes_eq-Decides}
 use Rattle.std.proofs.lemmas.Bool.{cond_both, eq-eqb, leb-true, le-leb, and_from}
 use Rattle.std.specs.Option.{ok_or as std_ok_or, option_map, option_or}
@@ -10,10 +11,10 @@ use Rattle.tell.specs.declared.faults.DrillFault.{DrillFault}
 use Rattle.tell.specs.declared.faults.DrillFault.TheVariants.{End}
 use Rattle.script.specs.declared.forms.Form.{Form}
 use Rattle.script.specs.declared.forms.Form.TheVariants as form
-use Rattle.script.specs.declared.values.CarrierWord.{CarrierWord}
-use Rattle.script.specs.declared.values.CarrierWord.TheVariants.{Data, Voice}
-use Rattle.script.specs.declared.values.CheckWord.{CheckWord}
-use Rattle.script.specs.declared.values.CheckWord.TheVariants.{Polynomial, Sum}
+use Rattle.fragment.specs.declared.name.CarrierName.{CarrierName}
+use Rattle.fragment.specs.declared.name.CarrierName.TheVariants.{Data, Voice}
+use Rattle.check32.specs.declared.name.CheckName.{CheckName}
+use Rattle.check32.specs.declared.name.CheckName.TheVariants.{Polynomial, Sum}
 use Rattle.script.specs.declared.values.Head.{Head}
 use Rattle.script.specs.declared.values.Message.{Message}
 use Rattle.tell.specs.Faults.{wrong}
@@ -22,7 +23,7 @@ use Rattle.script.specs.Scripts.{Plan, is_line, last, limited, lone_figure, at_l
 use Rattle.script.specs.Turns.{turn_of}
 use Rattle.script.specs.Words.{read_on, past, figure_of, figure_to, next_figure, is_end}
 use Rattle.script.specs.Written.{line_end, item_before, form_fits, forms_fit, send_line, form_line, forms_text, carrier_line, check_line, retries_line, serial_line, Writes}
-use Rattle.script.proofs.Came.{never, some_same, read-on, by-test, kept-only, past-only, end-only, figure-only, figure-to-only, next-only}
+use Rattle.script.proofs.Came.{read-on, by-test, kept-only, past-only, end-only, figure-only, figure-to-only, next-only}
 use Rattle.script.proofs.TurnsOnly.{turn-only}
 
 -- Answers
@@ -87,13 +88,13 @@ send-only number line m e =
     ∙ ap (λ l. codes "(send" ++ item_before a.0.0 (item_before b.0.0 l)) (end-only b.0.1 k.0) in
     let fits : form_fits number (form.Send (record { line = number; count = a.0.0; value = b.0.0 })) ≡ true =
     and_from _ _ (eq-eqb number number refl) (and_from _ _ (le-leb a.0.0 60000 f.1) (le-leb b.0.0 255 g.1)) in
-    subst (λ (x : Message). FormIs number line (form.Send x)) (some_same k.1) (here, fits)
+    subst (λ (x : Message). FormIs number line (form.Send x)) (same_Some _ _ k.1) (here, fits)
 
 either-only : (number : ℕ) (line : List ℕ) (s : Option Message) (t : Option Fate) (f : Form) → send_of number line ≡ s → turn_of line ≡ t
     → option_or (option_map (λ m. form.Send m) s) (option_map (λ g. form.Turn g) t) ≡ Some f → FormIs number line f
-either-only number line (Some m) t f p q e = subst (λ (x : Form). FormIs number line x) (some_same e) (send-only number line m p)
-either-only number line None (Some g) f p q e = subst (λ (x : Form). FormIs number line x) (some_same e) (turn-only line g q)
-either-only number line None None f p q e = absurd (never e)
+either-only number line (Some m) t f p q e = subst (λ (x : Form). FormIs number line x) (same_Some _ _ e) (send-only number line m p)
+either-only number line None (Some g) f p q e = subst (λ (x : Form). FormIs number line x) (same_Some _ _ e) (turn-only line g q)
+either-only number line None None f p q e = absurd (none-some _ e)
 
 form-only : (number : ℕ) (line : List ℕ) (f : Form) → form_of number line ≡ Some f → FormIs number line f
 form-only number line f e = either-only number line (send_of number line) (turn_of line) f refl refl e
@@ -111,22 +112,22 @@ forms-only number (line ∷ lines) forms e =
 
 -- The first four lines
 
-carrier-only : (line : List ℕ) (c : CarrierWord) → carrier_of line ≡ Some c → line ≡ carrier_line c
+carrier-only : (line : List ℕ) (c : CarrierName) → carrier_of line ≡ Some c → line ≡ carrier_line c
 carrier-only line c e =
     elim (by-test (is_line (codes "(carrier data)") line) (Some Data) (cond (is_line (codes "(carrier voice)") line) (Some Voice) None) (Some c) e) [
-      | inl d ↦ (bytes_eq-Decides line (carrier_line Data)).0 d.0 ∙ ap carrier_line (some_same d.1)
+      | inl d ↦ (bytes_eq-Decides line (carrier_line Data)).0 d.0 ∙ ap carrier_line (same_Some _ _ d.1)
       | inr d ↦
           (let k = kept-only (is_line (codes "(carrier voice)") line) (Some Voice) c d.1 in
-          (bytes_eq-Decides line (carrier_line Voice)).0 k.0 ∙ ap carrier_line (some_same k.1))
+          (bytes_eq-Decides line (carrier_line Voice)).0 k.0 ∙ ap carrier_line (same_Some _ _ k.1))
     ]
 
-check-only : (line : List ℕ) (k : CheckWord) → check_of line ≡ Some k → line ≡ check_line k
+check-only : (line : List ℕ) (k : CheckName) → check_of line ≡ Some k → line ≡ check_line k
 check-only line c e =
     elim (by-test (is_line (codes "(check poly)") line) (Some Polynomial) (cond (is_line (codes "(check sum)") line) (Some Sum) None) (Some c) e) [
-      | inl d ↦ (bytes_eq-Decides line (check_line Polynomial)).0 d.0 ∙ ap check_line (some_same d.1)
+      | inl d ↦ (bytes_eq-Decides line (check_line Polynomial)).0 d.0 ∙ ap check_line (same_Some _ _ d.1)
       | inr d ↦
           (let k = kept-only (is_line (codes "(check sum)") line) (Some Sum) c d.1 in
-          (bytes_eq-Decides line (check_line Sum)).0 k.0 ∙ ap check_line (some_same k.1))
+          (bytes_eq-Decides line (check_line Sum)).0 k.0 ∙ ap check_line (same_Some _ _ k.1))
     ]
 
 lone-only : (word line : List ℕ) (n : ℕ) → lone_figure (word ++ codes " ") line ≡ Some n → (line ≡ word ++ item_before n line_end) × (n ≤ 4294967295)
@@ -135,7 +136,7 @@ lone-only word line n e =
     let w = read-on (past (word ++ codes " ") line) figure_of a.0 a.1 in
     let k = kept-only (is_end a.0.1) (Some a.0.0) n a.2 in
     let f = figure-only w.0 a.0 w.2 in
-    let same = some_same k.1 in (
+    let same = same_Some _ _ k.1 in (
       past-only (word ++ codes " ") line w.0 w.1 ∙ append_assoc word (codes " ") w.0 ∙ ap (λ l. word ++ (codes " " ++ l)) f.0
           ∙ ap (λ l. word ++ item_before a.0.0 l) (end-only a.0.1 k.0) ∙ ap (λ m. word ++ item_before m line_end) same,
       subst (λ (m : ℕ). m ≤ 4294967295) same f.1,
@@ -158,7 +159,7 @@ record HeadIs (one two three four : List ℕ) (head : Head) : Type 0 where
   pub few : head.retries ≤ 15
   pub small : head.serial ≤ 4294967295
 
-head-made : (one two three four : List ℕ) (c : CarrierWord) (k : CheckWord) (r s : ℕ) (head : Head)
+head-made : (one two three four : List ℕ) (c : CarrierName) (k : CheckName) (r s : ℕ) (head : Head)
     → carrier_of one ≡ Some c → check_of two ≡ Some k → retries_of three ≡ Ok r → serial_of four ≡ Some s
     → record { carrier = c; check = k; retries = r; serial = s } ≡ head → HeadIs one two three four head
 head-made one two three four c k r s head p q u v same =
@@ -174,14 +175,14 @@ head-made one two three four c k r s head p q u v same =
       small = small.1;
     })
 
-from-serial : (one two three four : List ℕ) (c : CarrierWord) (k : CheckWord) (r : ℕ) (head : Head)
+from-serial : (one two three four : List ℕ) (c : CarrierName) (k : CheckName) (r : ℕ) (head : Head)
     → carrier_of one ≡ Some c → check_of two ≡ Some k → retries_of three ≡ Ok r
     → and_then (std_ok_or (serial_of four) (wrong 4)) (λ s. Ok (record { carrier = c; check = k; retries = r; serial = s })) ≡ Ok head → HeadIs one two three four head
 from-serial one two three four c k r head p q u e =
     let a = and-then (std_ok_or (serial_of four) (wrong 4)) (λ s. Ok (record { carrier = c; check = k; retries = r; serial = s })) head e in
     head-made one two three four c k r a.0 head p q u (ok_or (serial_of four) (wrong 4) a.0 a.1) (ok_same a.2)
 
-from-retries : (one two three four : List ℕ) (c : CarrierWord) (k : CheckWord) (head : Head) → carrier_of one ≡ Some c → check_of two ≡ Some k
+from-retries : (one two three four : List ℕ) (c : CarrierName) (k : CheckName) (head : Head) → carrier_of one ≡ Some c → check_of two ≡ Some k
     → and_then (at_line 3 (retries_of three)) (λ r. and_then (std_ok_or (serial_of four) (wrong 4)) (λ s. Ok (record { carrier = c; check = k; retries = r; serial = s }))) ≡ Ok head
     → HeadIs one two three four head
 from-retries one two three four c k head p q e =
@@ -189,7 +190,7 @@ from-retries one two three four c k head p q e =
     and_then (std_ok_or (serial_of four) (wrong 4)) (λ s. Ok (record { carrier = c; check = k; retries = r; serial = s }))) head e in
     from-serial one two three four c k a.0 head p q (at-line 3 (retries_of three) a.0 a.1) a.2
 
-from-check : (one two three four : List ℕ) (c : CarrierWord) (head : Head) → carrier_of one ≡ Some c
+from-check : (one two three four : List ℕ) (c : CarrierName) (head : Head) → carrier_of one ≡ Some c
     → and_then (std_ok_or (check_of two) (wrong 2)) (λ k. and_then (at_line 3 (retries_of three)) (λ r.
     and_then (std_ok_or (serial_of four) (wrong 4)) (λ s. Ok (record { carrier = c; check = k; retries = r; serial = s })))) ≡ Ok head
     → HeadIs one two three four head

@@ -1,7 +1,6 @@
 pub mod Reading
 pub mod Records
 pub mod Cuts
-pub mod Choosing
 pub mod Bodies
 pub mod Figures
 pub mod TurnsBack
@@ -12,3 +11,4 @@ pub mod TurnsOnly
 pub mod DrillOnly
 pub mod Law
 pub mod Ranges
+pub mod Names

@@ -2,7 +2,6 @@
 use Rattle.std.proofs.Common.{◌≡◌, ℕ, ◌+◌, ◌-◌, ◌*◌, ◌<◌, ◌≤◌, eqb, leb, List, [], ◌∷◌, ◌++◌, length, get_or, take, drop, Some, None, Option, sym, refl, ap, ◌∙◌, arith, Bor, MatchOption}
 use Rattle.std.proofs.lemmas.List.{take_rest}
 use Rattle.std.proofs.lemmas.Bool.{cond-true, cond-false, cond_both, eqb-true, eq-eqb, ne_eqb, le-leb, lt-leb, and_from}
-use Rattle.std.proofs.lemmas.Bool.Decides.{nat_tests}
 use Rattle.std.specs.Option.{option_map}
 use Rattle.script.specs.Words.{past, read_on, is_digit, figure_from, figure_of, up_to, figure_to}
 
@@ -30,18 +29,6 @@ pub digit-more : (value : ℕ) (text : List ℕ) → 48 ≤ get_or text 0 0 → 
 digit-more value [] low high fits = absurd (omega arith)
 digit-more value (x ∷ text) low high fits =
     sym (cond-true (is_digit x) _ _ (and_from _ _ (le-leb 48 x low) (le-leb x 57 high)) ∙ cond-true (leb _ 4294967295) _ _ (le-leb _ 4294967295 fits))
-
--- A digit too many.
-pub digit-over : (value : ℕ) (text : List ℕ) → 48 ≤ get_or text 0 0 → get_or text 0 0 ≤ 57 → 4294967295 < 10 * value + (get_or text 0 0 - 48)
-    → figure_from value text ≡ None
-digit-over value [] low high over = absurd (omega arith)
-digit-over value (x ∷ text) low high over =
-    cond-true (is_digit x) _ _ (and_from _ _ (le-leb 48 x low) (le-leb x 57 high)) ∙ cond-false (leb _ 4294967295) _ _ (lt-leb _ 4294967295 over)
-
--- No digit more.
-pub digits-all : (value : ℕ) (text : List ℕ) → (0 < length text → 48 ≤ get_or text 0 0 → get_or text 0 0 ≤ 57 → ⊥) → figure_from value text ≡ Some (value, text)
-digits-all value [] h = refl
-digits-all value (x ∷ text) h = grind (arith, nat_tests)
 
 -- What stands behind the first octet, as the code cuts it.
 

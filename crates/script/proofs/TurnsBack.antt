@@ -4,8 +4,8 @@ use Rattle.std.proofs.lemmas.Nat.{mod-pow-add}
 use Rattle.std.proofs.lemmas.Bool.{cond-false, cond_both, eqb-true, eqb-false, ne_eqb, leb-true, ltb-true, and_parts}
 use Rattle.air.specs.declared.fate.Alteration.{Alteration}
 use Rattle.air.specs.declared.fate.Hearing.{Hearing}
-use Rattle.air.specs.declared.fate.Hearings.{Hearings}
-use Rattle.air.specs.declared.fate.Hearings.TheVariants.{Silent, Once, Twice, Thrice}
+use Rattle.air.specs.declared.few.UpToThree.{UpToThree}
+use Rattle.air.specs.declared.few.UpToThree.TheVariants.{Empty, One, Two, Three}
 use Rattle.air.specs.declared.fate.Fate.{Fate}
 use Rattle.script.specs.Words.{read_on, if_there, past, optional, is_digit, next_figure}
 use Rattle.script.specs.Turns.{records_from, some_bad, bad_of, masked, altered, alteration_of, replied, hearing_of, third, second, first, hearings_of, ended, waited, turn_of}
@@ -133,27 +133,27 @@ hearing-back h rest fits =
     (alteration-back h.alteration end parts.1 (no-alteration h.reply rest))
     ∙ reply-back h.bad h.alteration h.reply rest
 
-hearings-back : (hs : Hearings) → hearings_fit hs ≡ true → hearings_of (hearings_before hs line_end) ≡ Some (hs, line_end)
-hearings-back Silent fits = refl
-hearings-back (Once a) fits = ap (λ o. read_on o first) (hearing-back a line_end fits)
-hearings-back (Twice a b) fits =
+hearings-back : (hs : UpToThree Hearing) → hearings_fit hs ≡ true → hearings_of (hearings_before hs line_end) ≡ Some (hs, line_end)
+hearings-back Empty fits = refl
+hearings-back (One a) fits = ap (λ o. read_on o first) (hearing-back a line_end fits)
+hearings-back (Two a b) fits =
     let parts = and_parts (hearing_fits a) (hearing_fits b) fits in
     ap (λ o. read_on o first) (hearing-back a (hearing_before b line_end) parts.0)
     ∙ ap (λ o. read_on o (second a)) (hearing-back b line_end parts.1)
-hearings-back (Thrice a b c) fits =
+hearings-back (Three a b c) fits =
     let one = and_parts (hearing_fits a) _ fits in
     let two = and_parts (hearing_fits b) (hearing_fits c) one.1 in
     ap (λ o. read_on o first) (hearing-back a (hearing_before b (hearing_before c line_end)) one.0)
     ∙ ap (λ o. read_on o (second a)) (hearing-back b (hearing_before c line_end) two.0)
     ∙ ap (λ o. read_on o (third a b)) (hearing-back c line_end two.1)
 
-no_wait : (hs : Hearings) → None ≡ past (codes " (wait)") (hearings_before hs line_end)
-no_wait Silent = refl
-no_wait (Once a) = refl
-no_wait (Twice a b) = refl
-no_wait (Thrice a b c) = refl
+no_wait : (hs : UpToThree Hearing) → None ≡ past (codes " (wait)") (hearings_before hs line_end)
+no_wait Empty = refl
+no_wait (One a) = refl
+no_wait (Two a b) = refl
+no_wait (Three a b c) = refl
 
-wait-back : (wait : Bool) (hs : Hearings)
+wait-back : (wait : Bool) (hs : UpToThree Hearing)
     → optional (past (codes " (wait)") (word_before wait (codes " (wait)") (hearings_before hs line_end))) (word_before wait (codes " (wait)") (hearings_before hs line_end))
     ≡ (wait, hearings_before hs line_end)
 wait-back true hs = refl

@@ -1,16 +1,17 @@
 -- What is read as a turn is written as that turn.
 use Rattle.std.proofs.Common.{◌≡◌, ℕ, zero, suc, ◌+◌, ◌-◌, ◌*◌, ◌/◌, ◌%◌, ◌^◌, ◌<◌, ◌≤◌, Bool, true, false, eqb, leb, List, ◌++◌, Some, None, codes, Option, sym, refl, ap, ◌∙◌, subst, inl, inr, add-zero, mod-eq_of_lt, zero-add, arith}
+use Rattle.std.proofs.lemmas.Option.{same_Some}
 use native.Mathlib.Nat.{div-eq_of_lt}
 use Rattle.std.proofs.lemmas.Nat.{mod_below, pow_pos}
 use Rattle.std.proofs.lemmas.Bool.{cond-true, cond-false, cases_eq, eq-eqb, ne_eqb, eqb-false, leb-true, le-leb, lt-ltb, and_from}
 use Rattle.air.specs.declared.fate.Alteration.{Alteration}
 use Rattle.air.specs.declared.fate.Fate.{Fate}
 use Rattle.air.specs.declared.fate.Hearing.{Hearing}
-use Rattle.air.specs.declared.fate.Hearings.{Hearings}
+use Rattle.air.specs.declared.few.UpToThree.{UpToThree}
 use Rattle.script.specs.Words.{read_on, past, optional, figure_to, next_figure, closed, is_end}
 use Rattle.script.specs.Turns.{ascending, records_from, some_bad, bad_of, masked, altered, alteration_of, replied, heard, hearing_of, third, second, first, hearings_of, ended, waited, turn_of}
 use Rattle.script.specs.Written.{item_before, word_before, is_bad, records_before, bad_before, alteration_before, hearing_before, hearings_before, turn_line, alteration_fits, hearing_fits, hearings_fit}
-use Rattle.script.proofs.Came.{some_same, read-on, if-there, kept-only, not_none, past-only, optional-only, closed-only, end-only, figure-to-only, next-only}
+use Rattle.script.proofs.Came.{read-on, if-there, kept-only, not_none, past-only, optional-only, closed-only, end-only, figure-to-only, next-only}
 use Rattle.script.proofs.Records.{pow_mono, record-room}
 use Rattle.script.proofs.TurnsBack.{low_bits}
 
@@ -105,7 +106,7 @@ one_left least bad text q p low up few here rest =
 
 records-only : (m least bad : ℕ) (text : List ℕ) (p : ℕ × List ℕ) → bad < 2 ^ least → least ≤ 16 → records_from m least bad text ≡ Some p → RecordsAre least bad text p
 unfolding records_from
-records-only zero least bad text p low few e = none_left least bad text p low few (some_same e)
+records-only zero least bad text p low few e = none_left least bad text p low few (same_Some _ _ e)
 records-only (suc m) least bad text p low few e =
     elim (if-there (past (codes " ") text) (bad, text)
     (λ more. read_on (read_on (figure_to 15 more) (ascending least)) (λ q. records_from m (q.0 + 1) (bad + 2 ^ q.0) q.1)) p e) [
@@ -117,7 +118,7 @@ records-only (suc m) least bad text p low few e =
           let f = figure-to-only 15 s.0 b.0 b.1 in
           let up = leb-true least b.0.0 k.0 in
           let room = record-room least bad b.0.0 low up f.1 in
-          let on = subst (λ (q : ℕ × List ℕ). records_from m (q.0 + 1) (bad + 2 ^ q.0) q.1 ≡ Some p) (sym (some_same k.1)) a.2 in
+          let on = subst (λ (q : ℕ × List ℕ). records_from m (q.0 + 1) (bad + 2 ^ q.0) q.1 ≡ Some p) (sym (same_Some _ _ k.1)) a.2 in
           let few-more : b.0.0 + 1 ≤ 16 = omega (arith, f.1) in
           one_left least bad text b.0 p low up f.1 (past-only (codes " ") text s.0 s.1 ∙ ap (λ l. codes " " ++ l) f.0)
           (records-only m (b.0.0 + 1) (bad + 2 ^ b.0.0) b.0.1 p room.0 few-more on))
@@ -235,34 +236,34 @@ hearing-only text p e =
       | inr s ↦ heard-only text s.0 p (past-only (codes " (heard") text s.0 s.1) s.2
     ]
 
-abbrev HearingsAre : List ℕ → Hearings × List ℕ → Type 0
+abbrev HearingsAre : List ℕ → UpToThree Hearing × List ℕ → Type 0
 HearingsAre text p = (text ≡ hearings_before p.0 p.1) × (hearings_fit p.0 ≡ true)
 
-third-only : (a b : Hearing) (q : Option Hearing × List ℕ) (p : Hearings × List ℕ) → hearing_fits a ≡ true → hearing_fits b ≡ true → maybe_fits q.0 ≡ true
+third-only : (a b : Hearing) (q : Option Hearing × List ℕ) (p : UpToThree Hearing × List ℕ) → hearing_fits a ≡ true → hearing_fits b ≡ true → maybe_fits q.0 ≡ true
     → third a b q ≡ Some p → HearingsAre (hearing_before a (hearing_before b (maybe_before q.0 q.1))) p
 third-only a b (None, text) p fa fb fc e =
-    subst (λ (q : Hearings × List ℕ). HearingsAre (hearing_before a (hearing_before b text)) q) (some_same e) (refl, and_from _ _ fa fb)
+    subst (λ (q : UpToThree Hearing × List ℕ). HearingsAre (hearing_before a (hearing_before b text)) q) (same_Some _ _ e) (refl, and_from _ _ fa fb)
 third-only a b (Some c, text) p fa fb fc e =
-    subst (λ (q : Hearings × List ℕ). HearingsAre (hearing_before a (hearing_before b (hearing_before c text))) q) (some_same e) (refl, and_from _ _ fa (and_from _ _ fb fc))
+    subst (λ (q : UpToThree Hearing × List ℕ). HearingsAre (hearing_before a (hearing_before b (hearing_before c text))) q) (same_Some _ _ e) (refl, and_from _ _ fa (and_from _ _ fb fc))
 
-second-only : (a : Hearing) (q : Option Hearing × List ℕ) (p : Hearings × List ℕ) → hearing_fits a ≡ true → maybe_fits q.0 ≡ true
+second-only : (a : Hearing) (q : Option Hearing × List ℕ) (p : UpToThree Hearing × List ℕ) → hearing_fits a ≡ true → maybe_fits q.0 ≡ true
     → second a q ≡ Some p → HearingsAre (hearing_before a (maybe_before q.0 q.1)) p
-second-only a (None, text) p fa fb e = subst (λ (q : Hearings × List ℕ). HearingsAre (hearing_before a text) q) (some_same e) (refl, fa)
+second-only a (None, text) p fa fb e = subst (λ (q : UpToThree Hearing × List ℕ). HearingsAre (hearing_before a text) q) (same_Some _ _ e) (refl, fa)
 second-only a (Some b, text) p fa fb e =
     let r = read-on (hearing_of text) (third a b) p e in
     let h = hearing-only text r.0 r.1 in
     let t = third-only a b r.0 p fa fb h.1 r.2 in
     (ap (λ l. hearing_before a (hearing_before b l)) h.0 ∙ t.0, t.1)
 
-first-only : (q : Option Hearing × List ℕ) (p : Hearings × List ℕ) → maybe_fits q.0 ≡ true → first q ≡ Some p → HearingsAre (maybe_before q.0 q.1) p
-first-only (None, text) p fa e = subst (λ (q : Hearings × List ℕ). HearingsAre text q) (some_same e) (refl, refl)
+first-only : (q : Option Hearing × List ℕ) (p : UpToThree Hearing × List ℕ) → maybe_fits q.0 ≡ true → first q ≡ Some p → HearingsAre (maybe_before q.0 q.1) p
+first-only (None, text) p fa e = subst (λ (q : UpToThree Hearing × List ℕ). HearingsAre text q) (same_Some _ _ e) (refl, refl)
 first-only (Some a, text) p fa e =
     let r = read-on (hearing_of text) (second a) p e in
     let h = hearing-only text r.0 r.1 in
     let t = second-only a r.0 p fa h.1 r.2 in
     (ap (λ l. hearing_before a l) h.0 ∙ t.0, t.1)
 
-hearings-only : (text : List ℕ) (p : Hearings × List ℕ) → hearings_of text ≡ Some p → HearingsAre text p
+hearings-only : (text : List ℕ) (p : UpToThree Hearing × List ℕ) → hearings_of text ≡ Some p → HearingsAre text p
 hearings-only text p e =
     let r = read-on (hearing_of text) first p e in
     let h = hearing-only text r.0 r.1 in
@@ -285,4 +286,4 @@ turn-only line f e =
     past-only (codes "(turn") line a.0 a.1 ∙ ap (λ l. codes "(turn" ++ l) (optional-only (codes " (wait)") a.0)
     ∙ ap (λ l. codes "(turn" ++ word_before o.0 (codes " (wait)") l) h.0
     ∙ ap (λ l. codes "(turn" ++ word_before o.0 (codes " (wait)") (hearings_before b.0.0 l)) (end-only b.0.1 k.0) in
-    subst (λ (g : Fate). TurnIs line g) (some_same k.1) (here, h.1)
+    subst (λ (g : Fate). TurnIs line g) (same_Some _ _ k.1) (here, h.1)

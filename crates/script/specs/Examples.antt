@@ -1,10 +1,10 @@
 -- Examples of drills, read.
 use Rattle.std.specs.Prelude.{◌≡◌, ℕ, true, false, List, [], ◌∷◌, ◌++◌, Some, None, Ok, Err, codes}
-use Rattle.air.specs.declared.fate.Hearings.TheVariants.{Silent, Once, Twice}
+use Rattle.air.specs.declared.few.UpToThree.TheVariants.{Empty, One, Two}
 use Rattle.fault.specs.declared.EndFault.TheVariants.{Retries}
 use Rattle.tell.specs.declared.faults.DrillFault.TheVariants.{End}
-use Rattle.script.specs.declared.values.CarrierWord.TheVariants.{Data, Voice}
-use Rattle.script.specs.declared.values.CheckWord.TheVariants.{Polynomial, Sum}
+use Rattle.fragment.specs.declared.name.CarrierName.TheVariants.{Data, Voice}
+use Rattle.check32.specs.declared.name.CheckName.TheVariants.{Polynomial, Sum}
 use Rattle.tell.specs.Faults.{wrong}
 use Rattle.script.specs.Scripts.{script_of, form_of}
 use Rattle.script.specs.Turns.{turn_of}
@@ -27,11 +27,11 @@ pub record Accepted : Type 0 where
   pub shortest : script_of (third_line (codes "(retries 0)")) ≡ Ok (record { head = record { carrier = Data; check = Polynomial; retries = 0; serial = 0 }; sends = []; turns = [] })
   pub one_send : script_of (fifth_line (codes "(send 60000 255)"))
       ≡ Ok (record { head = record { carrier = Voice; check = Sum; retries = 15; serial = 4294967295 }; sends = record { line = 5; count = 60000; value = 255 } ∷ []; turns = [] })
-  pub silent_turn : turn_of (text_of (codes "(turn)" ∷ [])) ≡ Some (record { wait = false; heard = Silent })
+  pub silent_turn : turn_of (text_of (codes "(turn)" ∷ [])) ≡ Some (record { wait = false; heard = Empty })
   pub full_turn : turn_of (text_of (codes "(turn (wait) (heard (bad 0 2) (alter 1 5 255) (reply)))" ∷ []))
-      ≡ Some (record { wait = true; heard = Once (record { bad = 5; alteration = Some (record { «record» = 1; place = 5; mask = 255 }); reply = true }) })
+      ≡ Some (record { wait = true; heard = One (record { bad = 5; alteration = Some (record { «record» = 1; place = 5; mask = 255 }); reply = true }) })
   pub two_heard : turn_of (text_of (codes "(turn (heard) (heard (bad 15)))" ∷ []))
-      ≡ Some (record { wait = false; heard = Twice (record { bad = 0; alteration = None; reply = false }) (record { bad = 32768; alteration = None; reply = false }) })
+      ≡ Some (record { wait = false; heard = Two (record { bad = 0; alteration = None; reply = false }) (record { bad = 32768; alteration = None; reply = false }) })
 
 -- Drills that are refused.
 pub record Rejected : Type 0 where

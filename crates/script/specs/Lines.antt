@@ -1,5 +1,5 @@
 -- The lines of a text.
-use Rattle.std.specs.Prelude.{ℕ, suc, cond, List, [], ◌∷◌, ◌==◌}
+use Rattle.std.specs.Prelude.{ℕ, cond, List, [], ◌∷◌, ◌==◌}
 
 -- An octet before the first of some lines.
 abbrev pub onto : ℕ → List (List ℕ) → List (List ℕ)
@@ -10,8 +10,3 @@ onto x (line ∷ lines) = (x ∷ line) ∷ lines
 abbrev pub lines_of : List ℕ → List (List ℕ)
 lines_of [] = []
 lines_of (x ∷ text) = cond (x == 10) ((x ∷ []) ∷ lines_of text) (onto x (lines_of text))
-
--- The octets of the first line.
-abbrev pub line_length : List ℕ → ℕ
-line_length [] = 0
-line_length (x ∷ text) = suc (cond (x == 10) 0 (line_length text))

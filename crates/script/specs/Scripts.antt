@@ -10,13 +10,15 @@ use Rattle.tell.specs.declared.faults.DrillFault.TheVariants.{End, Line}
 use Rattle.tell.specs.declared.faults.Refused.{Refused}
 use Rattle.script.specs.declared.forms.Form.{Form}
 use Rattle.script.specs.declared.forms.Form.TheVariants as form
-use Rattle.script.specs.declared.values.CarrierWord.{CarrierWord}
-use Rattle.script.specs.declared.values.CarrierWord.TheVariants.{Data, Voice}
-use Rattle.script.specs.declared.values.CheckWord.{CheckWord}
-use Rattle.script.specs.declared.values.CheckWord.TheVariants.{Polynomial, Sum}
+use Rattle.fragment.specs.declared.name.CarrierName.{CarrierName}
+use Rattle.fragment.specs.declared.name.CarrierName.TheVariants.{Data, Voice}
+use Rattle.check32.specs.declared.name.CheckName.{CheckName}
+use Rattle.check32.specs.declared.name.CheckName.TheVariants.{Polynomial, Sum}
 use Rattle.script.specs.declared.values.Head.{Head}
 use Rattle.script.specs.declared.values.Message.{Message}
 use Rattle.script.specs.declared.values.Script.{Script}
+use Rattle.script.specs.declared.values.ScriptError.{ScriptError}
+use Rattle.script.specs.declared.values.ScriptError.TheVariants as error
 use Rattle.tell.specs.Faults.{wrong}
 use Rattle.script.specs.Lines.{lines_of}
 use Rattle.script.specs.Turns.{turn_of}
@@ -28,11 +30,11 @@ use Rattle.script.specs.Words.{read_on, past, figure_of, figure_to, next_figure,
 abbrev pub is_line : List ℕ → List ℕ → Bool
 is_line text line = bytes_eq line (text ++ (10 ∷ []))
 
-abbrev pub carrier_of : List ℕ → Option CarrierWord
+abbrev pub carrier_of : List ℕ → Option CarrierName
 carrier_of line =
     cond (is_line (codes "(carrier data)") line) (Some Data) (cond (is_line (codes "(carrier voice)") line) (Some Voice) None)
 
-abbrev pub check_of : List ℕ → Option CheckWord
+abbrev pub check_of : List ℕ → Option CheckName
 check_of line =
     cond (is_line (codes "(check poly)") line) (Some Polynomial) (cond (is_line (codes "(check sum)") line) (Some Sum) None)
 
@@ -126,7 +128,8 @@ plan_in lines = and_then (head_of (slice_index_or lines 0 []) (slice_index_or li
 abbrev pub script_of : List ℕ → Result Plan Refused
 script_of input = cond (nat_le (length input) 65536) (plan_in (lines_of input)) (Err (wrong 0))
 
--- An answer as the code has it.
-abbrev pub planned : Result Script Refused → Result Plan Refused
-planned (Ok script) = Ok (record { head = script.head; sends = vec_items script.sends; turns = vec_items script.turns })
-planned (Err refused) = Err refused
+-- What the code answers, unless memory runs out.
+abbrev pub answered : Result Script ScriptError → Option (Result Plan Refused)
+answered (Ok script) = Some (Ok (record { head = script.head; sends = vec_items script.sends; turns = vec_items script.turns }))
+answered (Err (error.Refused refused)) = Some (Err refused)
+answered (Err (error.OutOfMemory short)) = None

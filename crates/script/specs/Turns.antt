@@ -2,8 +2,8 @@
 use Rattle.std.specs.Prelude.{ℕ, zero, suc, ◌+◌, ◌^◌, Bool, cond, List, Some, None, codes, Option, ◌==◌, nat_le}
 use Rattle.air.specs.declared.fate.Alteration.{Alteration}
 use Rattle.air.specs.declared.fate.Hearing.{Hearing}
-use Rattle.air.specs.declared.fate.Hearings.{Hearings}
-use Rattle.air.specs.declared.fate.Hearings.TheVariants.{Silent, Once, Twice, Thrice}
+use Rattle.air.specs.declared.few.UpToThree.{UpToThree}
+use Rattle.air.specs.declared.few.UpToThree.TheVariants.{Empty, One, Two, Three}
 use Rattle.air.specs.declared.fate.Fate.{Fate}
 use Rattle.script.specs.Words.{read_on, if_there, past, optional, figure_to, next_figure, closed, is_end}
 
@@ -51,22 +51,22 @@ hearing_of text = if_there (past (codes " (heard") text) (None, text) heard
 
 -- Up to three hearings.
 
-abbrev pub third : Hearing → Hearing → Option Hearing × List ℕ → Option (Hearings × List ℕ)
-third a b (None, text) = Some (Twice a b, text)
-third a b (Some c, text) = Some (Thrice a b c, text)
+abbrev pub third : Hearing → Hearing → Option Hearing × List ℕ → Option (UpToThree Hearing × List ℕ)
+third a b (None, text) = Some (Two a b, text)
+third a b (Some c, text) = Some (Three a b c, text)
 
-abbrev pub second : Hearing → Option Hearing × List ℕ → Option (Hearings × List ℕ)
-second a (None, text) = Some (Once a, text)
+abbrev pub second : Hearing → Option Hearing × List ℕ → Option (UpToThree Hearing × List ℕ)
+second a (None, text) = Some (One a, text)
 second a (Some b, text) = read_on (hearing_of text) (third a b)
 
-abbrev pub first : Option Hearing × List ℕ → Option (Hearings × List ℕ)
-first (None, text) = Some (Silent, text)
+abbrev pub first : Option Hearing × List ℕ → Option (UpToThree Hearing × List ℕ)
+first (None, text) = Some (Empty, text)
 first (Some a, text) = read_on (hearing_of text) (second a)
 
-abbrev pub hearings_of : List ℕ → Option (Hearings × List ℕ)
+abbrev pub hearings_of : List ℕ → Option (UpToThree Hearing × List ℕ)
 hearings_of text = read_on (hearing_of text) first
 
-abbrev pub ended : Bool → Hearings × List ℕ → Option Fate
+abbrev pub ended : Bool → UpToThree Hearing × List ℕ → Option Fate
 ended wait hearings = cond (is_end hearings.1) (Some (record { wait = wait; heard = hearings.0 })) None
 
 abbrev pub waited : Bool × List ℕ → Option Fate

@@ -1,7 +1,7 @@
 -- Words and figures at the front of a text. A reader gives what it has read and the text behind it, or none.
-use Rattle.std.specs.Prelude.{ℕ, ◌+◌, ◌-◌, ◌*◌, Bool, true, false, cond, ◌&&◌, List, [], ◌∷◌, ◌++◌, drop, Some, None, codes, Option, ◌==◌, nat_le, slice_index}
+use Rattle.std.specs.Prelude.{◌≡◌, ℕ, ◌+◌, ◌-◌, ◌*◌, Bool, true, false, cond, ◌&&◌, List, [], ◌∷◌, ◌++◌, drop, Some, None, Ok, Err, Result, codes, Option, ◌==◌, nat_le, slice_index}
 use Rattle.std.specs.Borrow.{Bor}
-use Rattle.std.specs.Str.{bytes_eq}
+use Rattle.std.specs.Str.{bytes_eq, IsUtf8}
 
 -- A reading as the code has it.
 abbrev pub seen : {X : Type 0} → Option (X × Bor (List ℕ)) → Option (X × List ℕ)
@@ -65,3 +65,8 @@ closed p = read_on (past (codes ")") p.1) (λ rest. Some (p.0, rest))
 -- The last form of a line is closed, and the line ends.
 abbrev pub is_end : List ℕ → Bool
 is_end text = bytes_eq text (codes ")" ++ (10 ∷ []))
+
+-- A line that is this word, a name and the line's end is read as the name is; and no other line is read.
+pub record ReadsNamed {T E : Type 0} (gives : List ℕ → Result T E → Type 0) (word line : List ℕ) (answer : Option T) : Type 0 where
+  pub read : (named : T) → answer ≡ Some named → (name : List ℕ) × (line ≡ word ++ (name ++ (codes ")" ++ (10 ∷ [])))) × gives name (Ok named)
+  pub none : answer ≡ None → (name : List ℕ) → IsUtf8 name → line ≡ word ++ (name ++ (codes ")" ++ (10 ∷ []))) → (error : E) × gives name (Err error)

@@ -2,18 +2,18 @@
 use Rattle.std.specs.Prelude.{◌≡◌, ℕ, zero, suc, ◌+◌, ◌/◌, ◌%◌, ◌^◌, ◌≤◌, Bool, true, cond, ◌&&◌, List, [], ◌∷◌, ◌++◌, length, Some, None, Ok, Err, codes, decimal, Option, Result, ◌==◌, nat_le, nat_lt}
 use Rattle.air.specs.declared.fate.Alteration.{Alteration}
 use Rattle.air.specs.declared.fate.Hearing.{Hearing}
-use Rattle.air.specs.declared.fate.Hearings.{Hearings}
-use Rattle.air.specs.declared.fate.Hearings.TheVariants.{Silent, Once, Twice, Thrice}
+use Rattle.air.specs.declared.few.UpToThree.{UpToThree}
+use Rattle.air.specs.declared.few.UpToThree.TheVariants.{Empty, One, Two, Three}
 use Rattle.air.specs.declared.fate.Fate.{Fate}
 use Rattle.fault.specs.declared.EndFault.TheVariants.{Retries}
 use Rattle.tell.specs.declared.faults.DrillFault.TheVariants.{End}
 use Rattle.tell.specs.declared.faults.Refused.{Refused}
 use Rattle.script.specs.declared.forms.Form.{Form}
 use Rattle.script.specs.declared.forms.Form.TheVariants as form
-use Rattle.script.specs.declared.values.CarrierWord.{CarrierWord}
-use Rattle.script.specs.declared.values.CarrierWord.TheVariants.{Data, Voice}
-use Rattle.script.specs.declared.values.CheckWord.{CheckWord}
-use Rattle.script.specs.declared.values.CheckWord.TheVariants.{Polynomial, Sum}
+use Rattle.fragment.specs.declared.name.CarrierName.{CarrierName}
+use Rattle.fragment.specs.declared.name.CarrierName.TheVariants.{Data, Voice}
+use Rattle.check32.specs.declared.name.CheckName.{CheckName}
+use Rattle.check32.specs.declared.name.CheckName.TheVariants.{Polynomial, Sum}
 use Rattle.script.specs.declared.values.Head.{Head}
 use Rattle.script.specs.declared.values.Message.{Message}
 use Rattle.script.specs.Scripts.{Plan, plan_of}
@@ -53,11 +53,11 @@ abbrev pub hearing_before : Hearing → List ℕ → List ℕ
 hearing_before h text =
     codes " (heard" ++ bad_before h.bad (alteration_before h.alteration (word_before h.reply (codes " (reply)") (codes ")" ++ text)))
 
-abbrev pub hearings_before : Hearings → List ℕ → List ℕ
-hearings_before Silent text = text
-hearings_before (Once a) text = hearing_before a text
-hearings_before (Twice a b) text = hearing_before a (hearing_before b text)
-hearings_before (Thrice a b c) text = hearing_before a (hearing_before b (hearing_before c text))
+abbrev pub hearings_before : UpToThree Hearing → List ℕ → List ℕ
+hearings_before Empty text = text
+hearings_before (One a) text = hearing_before a text
+hearings_before (Two a b) text = hearing_before a (hearing_before b text)
+hearings_before (Three a b c) text = hearing_before a (hearing_before b (hearing_before c text))
 
 abbrev pub turn_line : Fate → List ℕ
 turn_line f = codes "(turn" ++ word_before f.wait (codes " (wait)") (hearings_before f.heard line_end)
@@ -71,11 +71,11 @@ alteration_fits (Some a) = nat_le a.«record» 15 && (nat_le a.place 19 && (nat_
 abbrev pub hearing_fits : Hearing → Bool
 hearing_fits h = nat_lt h.bad 65536 && alteration_fits h.alteration
 
-abbrev pub hearings_fit : Hearings → Bool
-hearings_fit Silent = true
-hearings_fit (Once a) = hearing_fits a
-hearings_fit (Twice a b) = hearing_fits a && hearing_fits b
-hearings_fit (Thrice a b c) = hearing_fits a && (hearing_fits b && hearing_fits c)
+abbrev pub hearings_fit : UpToThree Hearing → Bool
+hearings_fit Empty = true
+hearings_fit (One a) = hearing_fits a
+hearings_fit (Two a b) = hearing_fits a && hearing_fits b
+hearings_fit (Three a b c) = hearing_fits a && (hearing_fits b && hearing_fits c)
 
 abbrev pub form_fits : ℕ → Form → Bool
 form_fits number (form.Send m) = m.line == number && (nat_le m.count 60000 && nat_le m.value 255)
@@ -99,11 +99,11 @@ abbrev pub forms_text : List Form → List ℕ
 forms_text [] = []
 forms_text (f ∷ forms) = form_line f ++ forms_text forms
 
-abbrev pub carrier_line : CarrierWord → List ℕ
+abbrev pub carrier_line : CarrierName → List ℕ
 carrier_line Data = codes "(carrier data" ++ line_end
 carrier_line Voice = codes "(carrier voice" ++ line_end
 
-abbrev pub check_line : CheckWord → List ℕ
+abbrev pub check_line : CheckName → List ℕ
 check_line Polynomial = codes "(check poly" ++ line_end
 check_line Sum = codes "(check sum" ++ line_end
 

@@ -3,13 +3,13 @@ ghost use Rattle.std.specs.Prelude.{◌≡◌, ◌++◌, OnOk};
 ghost use Rattle.script.specs.Scripts.{send_of, form_of, send_in, turn_in};
 
 use crate::turns::read_turn;
-use crate::values::Message;
+use crate::values::{Message, Script};
 use crate::words::{is_end, read_figure, read_next, read_word};
 use air::fate::Fate;
 use std::alloc::AllocError;
 
 // What one line asks for.
-#[derive(Clone, Copy)]
+#[derive(Clone, Copy, PartialEq, Eq, Debug)]
 pub(crate) enum Form {
     Send(Message),
     Turn(Fate),
@@ -24,10 +24,7 @@ fn read_send(number: usize, line: &[u8]) -> Option<Message>
         return None;
     }
     let (value, rest) = read_next(rest, 255)?;
-    if !is_end(rest) {
-        return None;
-    }
-    Some(Message {
+    is_end(rest).then_some(Message {
         line: number,
         count: count as usize,
         value,
@@ -37,25 +34,21 @@ fn read_send(number: usize, line: &[u8]) -> Option<Message>
 pub(crate) fn read_form(number: usize, line: &[u8]) -> Option<Form>
     ensures { result ≡ form_of number line.now }
 {
-    match (read_send(number, line), read_turn(line)) {
-        (Some(message), _) => Some(Form::Send(message)),
-        (None, Some(fate)) => Some(Form::Turn(fate)),
-        (None, None) => None,
-    }
+    let message = read_send(number, line).map(Form::Send);
+    message.or_else(|| read_turn(line).map(Form::Turn))
 }
 
-// Keeps what a form asks for.
-pub(crate) fn keep(
-    form: Form,
-    sends: &mut Vec<Message>,
-    turns: &mut Vec<Fate>,
-) -> Result<(), AllocError>
-    ensures sends { OnOk result (sends.new.items ≡ sends.old.items ++ send_in form) }
-    ensures turns { OnOk result (turns.new.items ≡ turns.old.items ++ turn_in form) }
-{
-    match form {
-        Form::Send(message) => sends.push(message)?,
-        Form::Turn(fate) => turns.push(fate)?,
+impl Script {
+    // Keeps what a form asks for.
+    pub(crate) fn keep(&mut self, form: Form) -> Result<(), AllocError>
+        ensures head { self.new.head ≡ self.old.head }
+        ensures sends { OnOk result (self.new.sends.items ≡ self.old.sends.items ++ send_in form) }
+        ensures turns { OnOk result (self.new.turns.items ≡ self.old.turns.items ++ turn_in form) }
+    {
+        match form {
+            Form::Send(message) => self.sends.push(message)?,
+            Form::Turn(fate) => self.turns.push(fate)?,
+        }
+        Ok(())
     }
-    Ok(())
 }

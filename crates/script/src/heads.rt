@@ -1,35 +1,38 @@
 // The first four lines of a drill, read.
 ghost use Rattle.std.specs.Prelude.{◌≡◌};
 ghost use Rattle.tell.specs.Faults.{wrong};
+ghost use Rattle.script.specs.Words.{ReadsNamed};
 ghost use Rattle.script.specs.Scripts.{carrier_of, check_of, lone_figure, retries_of, head_of};
 
-use crate::values::{CarrierWord, CheckWord, Head};
-use crate::words::{is_end, is_word, read_figure, read_word};
+use crate::values::Head;
+use crate::words::{is_end, read_figure, read_word};
+use check32::CheckName;
 use fault::EndFault;
+use fragment::name::CarrierName;
+use std::str;
+use std::str::FromStr;
 use tell::faults::{DrillFault, Refused};
 
-fn read_carrier(line: &[u8]) -> Option<CarrierWord>
-    ensures { result ≡ carrier_of line.now }
+// What a line names that is this word, a name and the line's end.
+fn read_named<T: FromStr>(line: &[u8], word: &[u8]) -> Option<T>
+where
+    T::Err: Drop,
+    ensures { ReadsNamed T.from_str_gives word.now line.now result }
 {
-    if is_word(line, b"(carrier data)\n") {
-        Some(CarrierWord::Data)
-    } else if is_word(line, b"(carrier voice)\n") {
-        Some(CarrierWord::Voice)
-    } else {
-        None
-    }
+    let name = line.strip_prefix(word)?.strip_suffix(b")\n")?;
+    str::from_utf8(name).ok()?.parse().ok()
 }
 
-fn read_check(line: &[u8]) -> Option<CheckWord>
+fn read_carrier(line: &[u8]) -> Option<CarrierName>
+    ensures { result ≡ carrier_of line.now }
+{
+    read_named(line, b"(carrier ")
+}
+
+fn read_check(line: &[u8]) -> Option<CheckName>
     ensures { result ≡ check_of line.now }
 {
-    if is_word(line, b"(check poly)\n") {
-        Some(CheckWord::Polynomial)
-    } else if is_word(line, b"(check sum)\n") {
-        Some(CheckWord::Sum)
-    } else {
-        None
-    }
+    read_named(line, b"(check ")
 }
 
 // The one figure of a line that begins with this word.
@@ -37,7 +40,7 @@ fn read_lone(line: &[u8], word: &[u8]) -> Option<u32>
     ensures { result ≡ lone_figure word.now line.now }
 {
     let (value, rest) = read_figure(read_word(line, word)?)?;
-    if is_end(rest) { Some(value) } else { None }
+    is_end(rest).then_some(value)
 }
 
 fn read_retries(line: &[u8]) -> Result<u8, DrillFault>
@@ -65,10 +68,7 @@ pub(crate) fn read_head(one: &[u8], two: &[u8], three: &[u8], four: &[u8]) -> Re
 {
     let carrier = read_carrier(one).ok_or(wrong_line(1))?;
     let check = read_check(two).ok_or(wrong_line(2))?;
-    let retries = match read_retries(three) {
-        Ok(retries) => retries,
-        Err(fault) => return Err(Refused { line: 3, fault }),
-    };
+    let retries = read_retries(three).map_err(|fault| Refused { line: 3, fault })?;
     let serial = read_lone(four, b"(serial ").ok_or(wrong_line(4))?;
     Ok(Head {
         carrier,

@@ -3,7 +3,6 @@
 
 mod forms;
 mod heads;
-mod lines;
 pub mod parse;
 mod turns;
 pub mod values;

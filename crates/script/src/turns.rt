@@ -5,6 +5,7 @@ ghost use Rattle.script.specs.Turns.{records_from, bad_of, altered, alteration_o
 
 use crate::words::{is_end, read_next, read_optional, read_small, read_word};
 use air::fate::{Alteration, Fate, Hearing, Hearings};
+use air::few::UpToThree;
 
 // Bad records, each behind a space and above the one before.
 fn read_records(text: &[u8]) -> Option<(u16, &[u8])>
@@ -13,6 +14,7 @@ fn read_records(text: &[u8]) -> Option<(u16, &[u8])>
     let mut rest = text;
     let mut least = 0;
     let mut bad = 0;
+    // At most 16; the loop is left early in two ways.
     for _ in 0..16u8 {
         let Some(more) = read_word(rest, b" ") else {
             return Some((bad, rest));
@@ -92,7 +94,7 @@ fn read_heard(text: &[u8]) -> Option<(Option<Hearing>, &[u8])>
     ))
 }
 
-// One hearing, if it is there.
+// One hearing, if it is there. It reads as an alteration does; one function of both would take the reader, with clauses on its calls.
 fn read_hearing(text: &[u8]) -> Option<(Option<Hearing>, &[u8])>
     ensures { seen result ≡ hearing_of text.now }
 {
@@ -106,19 +108,17 @@ fn read_hearing(text: &[u8]) -> Option<(Option<Hearing>, &[u8])>
 fn read_hearings(text: &[u8]) -> Option<(Hearings, &[u8])>
     ensures { seen result ≡ hearings_of text.now }
 {
-    let (first, rest) = read_hearing(text)?;
-    let Some(first) = first else {
-        return Some((Hearings::Silent, rest));
-    };
-    let (second, rest) = read_hearing(rest)?;
-    let Some(second) = second else {
-        return Some((Hearings::Once(first), rest));
-    };
-    let (third, rest) = read_hearing(rest)?;
-    let Some(third) = third else {
-        return Some((Hearings::Twice(first, second), rest));
-    };
-    Some((Hearings::Thrice(first, second, third), rest))
+    let mut heard = UpToThree::Empty;
+    let mut rest = text;
+    for _ in 0..3u8 {
+        let (hearing, more) = read_hearing(rest)?;
+        let Some(hearing) = hearing else {
+            return Some((heard, more));
+        };
+        heard = heard.and(hearing);
+        rest = more;
+    }
+    Some((heard, rest))
 }
 
 // The fate in a line.
@@ -128,9 +128,5 @@ pub(crate) fn read_turn(line: &[u8]) -> Option<Fate>
     let text = read_word(line, b"(turn")?;
     let (wait, rest) = read_optional(text, b" (wait)");
     let (heard, rest) = read_hearings(rest)?;
-    if is_end(rest) {
-        Some(Fate { wait, heard })
-    } else {
-        None
-    }
+    is_end(rest).then_some(Fate { wait, heard })
 }

@@ -1,15 +1,7 @@
 // Words and figures at the front of a text.
 ghost use Rattle.std.specs.Prelude.{◌≡◌};
 ghost use Rattle.std.specs.Option.{option_map};
-ghost use Rattle.std.specs.Str.{bytes_eq};
 ghost use Rattle.script.specs.Words.{seen, past, optional, figure_from, figure_of, figure_to, next_figure, is_end};
-
-// Whether a text is a word.
-pub(crate) fn is_word(text: &[u8], word: &[u8]) -> bool
-    ensures { result ≡ bytes_eq text.now word.now }
-{
-    text == word
-}
 
 // The text behind a word.
 pub(crate) fn read_word<'a>(text: &'a [u8], word: &[u8]) -> Option<&'a [u8]>
@@ -18,7 +10,7 @@ pub(crate) fn read_word<'a>(text: &'a [u8], word: &[u8]) -> Option<&'a [u8]>
     text.strip_prefix(word)
 }
 
-// Whether a word is there, and the text behind it.
+// Whether a word is there, which is the value that is read, and the text behind it.
 pub(crate) fn read_optional<'a>(text: &'a [u8], word: &[u8]) -> (bool, &'a [u8])
     ensures { (result.0, result.1.now) ≡ optional (past word.now text.now) text.now }
 {
@@ -35,11 +27,9 @@ fn read_digits(first: u8, text: &[u8]) -> Option<(u32, &[u8])>
     let mut value = u32::from(first);
     let mut rest = text;
     while let [digit @ b'0'..=b'9', more @ ..] = rest {
-        let grown = 10 * u64::from(value) + u64::from(*digit - b'0');
-        if grown > 4_294_967_295 {
-            return None;
-        }
-        value = grown as u32;
+        value = value
+            .checked_mul(10)?
+            .checked_add(u32::from(*digit - b'0'))?;
         rest = more;
     }
     Some((value, rest))
@@ -61,10 +51,8 @@ pub(crate) fn read_small(text: &[u8], most: u8) -> Option<(u8, &[u8])>
     ensures { seen result ≡ figure_to most text.now }
 {
     let (value, rest) = read_figure(text)?;
-    if value > u32::from(most) {
-        return None;
-    }
-    Some((value as u8, rest))
+    let value = u8::try_from(value).ok().filter(|value| *value <= most)?;
+    Some((value, rest))
 }
 
 // A figure of at most `most` behind a space.
@@ -78,5 +66,5 @@ pub(crate) fn read_next(text: &[u8], most: u8) -> Option<(u8, &[u8])>
 pub(crate) fn is_end(text: &[u8]) -> bool
     ensures { result ≡ is_end text.now }
 {
-    is_word(text, b")\n")
+    text == b")\n".as_slice()
 }

@@ -17,10 +17,10 @@ use Rattle.packet.specs.Refusals.{Refused, RefusedAtEnd}
 use Rattle.packet.specs.Responses.{response_at, response_of, response_tests}
 use Rattle.sender.specs.declared.values.Base.{Base}
 use Rattle.sender.specs.declared.values.Session.{Session}
-use Rattle.sender.specs.declared.values.Stepped.{Stepped}
+use Rattle.sender.specs.Steps.{Stepped}
 use Rattle.sender.specs.Steps.{answerable, block_count, answer_tests, answer_of, read_as, admit_of, step_of, hear_of}
 use Rattle.sender.specs.Laws.{Sendable, HearRefusals, Rows, Readable, FromPeer, ToThisEnd, ForFragment, AsksAmiss, OnSendable}
-use Rattle.sender.proofs.Putting.{heard-sendable}
+use Rattle.sender.proofs.Putting.{told, not-refused, heard-sendable}
 
 -- A table of tests that lets a value through gives that value.
 first-is : {A E : Type 0} (tests : List (Bool × E)) (a x : A) → first_of tests a ≡ Ok x → x ≡ a
@@ -34,21 +34,19 @@ first-is (t ∷ ts) a x e = through t.0 (first-is ts a x) e
 -- Each test of a table lets through what the table lets through.
 passes : {A E : Type 0} (b : Bool) (rest : Result A E) (fault : E) (x : A) → cond b rest (Err fault) ≡ Ok x → (b ≡ true) × (rest ≡ Ok x)
 passes true rest fault x h = (refl, h)
-passes false rest fault x h = absurd (let z : ◌≡◌ {A = ℕ} 0 1 = cc in omega arith)
+passes false rest fault x h = absurd (cc)
 
 -- The first test of a table refuses, or those after it do.
 module _ {A : Type 0} (fault : EndFault) (number place : ℕ) where
   by_first : (b : Bool) (rest : Result A EndFault) → RefusedAtEnd (cond b rest (Err fault)) number place
       → ((b ≡ false) × (end_number fault ≡ number) × (end_place fault ≡ place)) ⊎ ((b ≡ true) × RefusedAtEnd rest number place)
   by_first true rest h = inr (refl, h)
-  by_first false rest h =
-      let e : h.0 ≡ fault = let x = h.1 in cc in
-      inl (refl, ap end_number (sym e) ∙ h.2, ap end_place (sym e) ∙ h.3)
+  by_first false rest h = let p = told fault number place h in inl (refl, p.0, p.1)
 
 -- What follows a read response refuses nothing more.
 then-refused : {A B : Type 0} (r : Result A EndFault) (f : A → B) (number place : ℕ)
     → RefusedAtEnd (and_then r (λ a. Ok (f a))) number place → RefusedAtEnd r number place
-then-refused (Ok a) f number place h = absurd (let e = h.1 in let z : ◌≡◌ {A = ℕ} 0 1 = cc in omega arith)
+then-refused (Ok a) f number place h = absurd (not-refused (f a) number place h)
 then-refused (Err fault) f number place h = (h.0, let e = h.1 in cc, h.2, h.3)
 
 -- A code that can't be answered asks for blocks.
@@ -91,7 +89,7 @@ module _ (t : Terms) (b : Base) (s : Session) (xs : List ℕ) where
             | inl v ↦ other_number (sym v.1) (sym v.2) read (eqb-true _ _ p.0) (eqb-true _ _ q.0) (eqb-false _ _ v.0)
             | inr v ↦ elim (by_first end.Blocks number place (answerable t (block_count t s) r.code) (Ok r.code) v.1) [
               | inl w ↦ blocks (sym w.1) (sym w.2) read (eqb-true _ _ p.0) (eqb-true _ _ q.0) (eqb-true _ _ v.0) (unanswerable t (block_count t s) r.code w.0)
-              | inr w ↦ absurd (let e = w.1.1 in let z : ◌≡◌ {A = ℕ} 0 1 = cc in omega arith)
+              | inr w ↦ absurd (not-refused r.code number place w.1)
             ]
           ]
         ]
@@ -105,21 +103,19 @@ module _ (t : Terms) (b : Base) (s : Session) (xs : List ℕ) where
           let i : r ≡ response_at xs = first-is (response_tests t xs) (response_at xs) r e in
           let Refuses : Response → Type 0 = λ x. RefusedAtEnd (answer_of t b s x) number place in
           answer-reason (e ∙ ap Ok i) number place (subst Refuses i h)
-      from (Err fault) e h =
-          let i : h.0 ≡ end.Packet fault = let x = h.1 in cc in
-          unread (fault, e, ap end_number (sym i) ∙ h.2, ap end_place (sym i) ∙ h.3)
+      from (Err fault) e h = let p = told (end.Packet fault) number place h in unread (fault, e, p.0, p.1)
+
+  abbrev heard : Result Response PacketFault → Result Stepped EndFault
+  heard r = and_then (and_then (read_as r) (answer_of t b s)) (λ code. Ok (step_of b s (Some code)))
 
   -- A response that is read is refused by what follows the reading.
   refused-read : Readable t xs → (fault : EndFault) → answer_of t b s (response_at xs) ≡ Err fault → RefusedAtEnd (hear_of t b s xs) (end_number fault) (end_place fault)
   refused-read read fault e =
-      let heard : Result Response PacketFault → Result Stepped EndFault = λ r. and_then (and_then (read_as r) (answer_of t b s)) (λ code. Ok (step_of b s (Some code))) in
       let stepped : Result Code EndFault → Result Stepped EndFault = λ r. and_then r (λ code. Ok (step_of b s (Some code))) in
       (fault, ap heard read ∙ ap stepped e, refl, refl)
 
   refused-unread : (number place : ℕ) → Refused (response_of t xs) number place → RefusedAtEnd (hear_of t b s xs) number place
-  refused-unread number place h =
-      let heard : Result Response PacketFault → Result Stepped EndFault = λ r. and_then (and_then (read_as r) (answer_of t b s)) (λ code. Ok (step_of b s (Some code))) in
-      (end.Packet h.0, ap heard h.1, h.2, h.3)
+  refused-unread number place h = (end.Packet h.0, ap heard h.1, h.2, h.3)
 
   low-unread : (number place : ℕ) → number ≤ 5 → Reason number place → Refused (response_of t xs) number place
   low-unread number place l (unread h) = h
@@ -190,7 +186,7 @@ module _ (t : Terms) (b : Base) (s : Session) (xs : List ℕ) where
           let v = passes (eqb r.number s.number) _ _ code q.1 in
           let w = passes (answerable t (block_count t s) r.code) _ _ code v.1 in
           (same ∙ ap (λ (x : Response). x.code) read, ap (answerable t (block_count t s)) same ∙ w.0)
-      from (Err fault) e h = absurd (let z : ◌≡◌ {A = ℕ} 0 1 = cc in omega arith)
+      from (Err fault) e h = absurd (cc)
 
 -- The rows of the steps.
 pub rows : (b : Base) (s : Session) (heard : Option Code) → Rows b s heard (step_of b s heard)

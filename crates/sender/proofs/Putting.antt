@@ -17,7 +17,7 @@ use Rattle.packet.specs.Refusals.{RefusedAtEnd}
 use Rattle.sender.specs.declared.values.Base.{Base}
 use Rattle.sender.specs.declared.values.Session.{Session}
 use Rattle.sender.specs.declared.values.Outcome.TheVariants.{Delivered}
-use Rattle.sender.specs.declared.values.Stepped.TheVariants.{On}
+use Rattle.sender.specs.declared.values.Next.TheVariants.{On}
 use Rattle.sender.specs.Steps.{packet_of, sent_of, is_last, may_retry, end_of, next_fragment, again, lost_of, retry_of, step_of, blocks_in, block_count, answerable}
 use Rattle.sender.specs.Laws.{Sendable, OnSendable, PutRefusals, packet_size}
 
@@ -29,11 +29,11 @@ cut-here t m number f e = from (fragments_of t m) e
     by true h =
         let same : piece_at t m number ≡ f = cc in
         (sym (ap (λ (p : Piece). p.message) same), sym (ap (λ (p : Piece). p.block) same))
-    by false h = absurd (let z : ◌≡◌ {A = ℕ} 0 1 = cc in omega arith)
+    by false h = absurd (cc)
 
     from : (answer : Result ℕ EndFault) → where_cut t m number answer ≡ Some f → (f.message ≡ m) × (f.block ≡ t.block)
     from (Ok count) h = by (ltb number count) h
-    from (Err fault) h = absurd (let z : ◌≡◌ {A = ℕ} 0 1 = cc in omega arith)
+    from (Err fault) h = absurd (cc)
 
 -- Of a message's fragments those that follow one that is there are there too.
 cut-next : (t : Terms) (m number : ℕ) (f : Piece) → fragment_at t m number ≡ Some f → fragment_at t m (number - 1) ≡ Some (piece_at t m (number - 1))
@@ -41,20 +41,23 @@ cut-next t m number f e = from (fragments_of t m) e
   where
     by : (count : ℕ) (b : Bool) → ltb number count ≡ b → cond b (Some (piece_at t m number)) None ≡ Some f → where_cut t m (number - 1) (Ok count) ≡ Some (piece_at t m (number - 1))
     by count true l h = let n = ltb-true number count l in rw (lt-ltb (number - 1) count (omega arith))
-    by count false l h = absurd (let z : ◌≡◌ {A = ℕ} 0 1 = cc in omega arith)
+    by count false l h = absurd (cc)
 
     from : (answer : Result ℕ EndFault) → where_cut t m number answer ≡ Some f → where_cut t m (number - 1) answer ≡ Some (piece_at t m (number - 1))
     from (Ok count) h = by count (ltb number count) refl h
-    from (Err fault) h = absurd (let z : ◌≡◌ {A = ℕ} 0 1 = cc in omega arith)
+    from (Err fault) h = absurd (cc)
+
+-- A fault stands in a refusal with its own number and place, and what is no fault in none.
+pub told : {A : Type 0} (fault : EndFault) (n place : ℕ) → RefusedAtEnd {A = A} (Err fault) n place → (end_number fault ≡ n) × (end_place fault ≡ place)
+told fault n place h = let e : h.0 ≡ fault = let x = h.1 in cc in (ap end_number (sym e) ∙ h.2, ap end_place (sym e) ∙ h.3)
+
+pub not-refused : {A : Type 0} (a : A) (n place : ℕ) → RefusedAtEnd (Ok a) n place → ⊥
+not-refused a n place h = let e = h.1 in cc
 
 module _ (t : Terms) (number : List ℕ → ℕ) (b : Base) (s : Session) (message packet : List ℕ) where
   -- What is lent is not enough.
   abbrev Unlent : Piece → Type 0
   Unlent f = (length message ≢ f.message) ⊎ (length packet < packet_length f.block (length (carried s.blocks f.blocks)))
-
-  -- A fault stands in a refusal with its own number and place.
-  told : (fault : EndFault) (n place : ℕ) → RefusedAtEnd {A = ℕ} (Err fault) n place → (end_number fault ≡ n) × (end_place fault ≡ place)
-  told fault n place h = let e : h.0 ≡ fault = let x = h.1 in cc in (ap end_number (sym e) ∙ h.2, ap end_place (sym e) ∙ h.3)
 
   written-told : (f : Piece) → fitting t f.blocks s.blocks ≡ true → (n place : ℕ)
       → RefusedAtEnd (written_of t number b.route s.serial f s.blocks message packet).answer n place → (n ≡ 7) × (place ≡ 0) × Unlent f
@@ -64,7 +67,7 @@ module _ (t : Terms) (number : List ℕ → ℕ) (b : Base) (s : Session) (messa
       cond_both (eqb (length message) f.message) _ _ P
       (λ _. cond_both enough _ _ P
       (λ _. cond_both (fitting t f.blocks s.blocks) _ _ P
-      (λ _ h. absurd (let e = h.1 in let z : ◌≡◌ {A = ℕ} 0 1 = cc in omega arith))
+      (λ _ h. absurd (not-refused _ n place h))
       (λ e. absurd (both_ways (fitting t f.blocks s.blocks) e fits)))
       (λ e h. let p = told (end.Packet Buffer) n place h in (sym p.0, sym p.1, inr (leb-false _ _ e))))
       (λ e h. let p = told (end.Packet Message) n place h in (sym p.0, sym p.1, inl (eqb-false _ _ e)))

@@ -15,8 +15,8 @@ use Rattle.sender.specs.declared.values.Base.{Base}
 use Rattle.sender.specs.declared.values.Session.{Session}
 use Rattle.sender.specs.declared.values.Outcome.TheVariants.{Delivered}
 use Rattle.sender.specs.declared.values.Report.{Report}
-use Rattle.sender.specs.declared.values.Stepped.{Stepped}
-use Rattle.sender.specs.declared.values.Stepped.TheVariants.{On, Ended}
+use Rattle.sender.specs.Steps.{Stepped}
+use Rattle.sender.specs.declared.values.Next.TheVariants.{On, Ended}
 use Rattle.sender.specs.Steps.{serial_after, session_of, with_serial, start_of, counted, is_last, may_retry, end_of, next_fragment, again, lost_of, retry_of, step_of}
 use Rattle.sender.specs.Runs.{onward, run_of}
 use Rattle.sender.specs.Laws.{Sendable, Bounded}
@@ -46,7 +46,7 @@ module _ (b : Base) (count : ℕ) where
 
   abbrev Stays : Session → Stepped → Type 0
   Stays s (On next) = Moved s next
-  Stays s (Ended report) = (report.packets ≡ s.packets + 1) × (report.serial ≡ s.serial)
+  Stays s (Ended report left) = (report.packets ≡ s.packets + 1) × (report.serial ≡ s.serial)
 
   module _ (s : Session) (w : Within b count s) where
     retried : (blocks : Blocks) → Stays s (retry_of b (counted s) blocks)
@@ -99,7 +99,7 @@ module _ (b : Base) (count : ℕ) where
           let a = r.each in
           let o = m.one_more in
           record { within = r.within; each = omega arith; serial = r.serial ∙ m.serial; message = r.message ∙ m.message }
-      from (Ended report) m e more = absurd (let z : ◌≡◌ {A = ℕ} 0 1 = cc in omega arith)
+      from (Ended report left) m e more = absurd (cc)
 
   -- A run that has ended put out k packets, the last of which ended it.
   record Over (s : Session) (heard : List (Option Code)) (report : Report) : Type 0 where
@@ -108,7 +108,7 @@ module _ (b : Base) (count : ℕ) where
     pub serial : report.serial ≡ s.serial
     pub few : report.packets ≤ count * (b.limit + 1)
     pub there : k ≤ length heard
-    pub ends : run_of b s (take k heard) ≡ Ended report
+    pub ends : run_of b s (take k heard) ≡ Ended report tt
     pub not_before : (j : ℕ) → j < k → (now : Session) × (run_of b s (take j heard) ≡ On now)
 
   -- After a packet that did not end it, a run goes on from the next session.
@@ -121,12 +121,12 @@ module _ (b : Base) (count : ℕ) where
       let goes : Stepped → Stepped = λ x. onward x (λ n. run_of b n (take j later)) in
       (r.0, ap goes e ∙ r.1)
 
-  over : (heard : List (Option Code)) (s : Session) (report : Report) → Within b count s → run_of b s heard ≡ Ended report → Over s heard report
-  over [] s report w e = absurd (let z : ◌≡◌ {A = ℕ} 0 1 = cc in omega arith)
+  over : (heard : List (Option Code)) (s : Session) (report : Report) → Within b count s → run_of b s heard ≡ Ended report tt → Over s heard report
+  over [] s report w e = absurd (cc)
   over (h ∷ later) s report w e = from (step_of b (counted s) h) refl (stays s w h) e (λ next. over later next report)
     where
-      from : (after : Stepped) → step_of b (counted s) h ≡ after → Stays s after → onward after (λ next. run_of b next later) ≡ Ended report
-          → ((next : Session) → Within b count next → run_of b next later ≡ Ended report → Over next later report) → Over s (h ∷ later) report
+      from : (after : Stepped) → step_of b (counted s) h ≡ after → Stays s after → onward after (λ next. run_of b next later) ≡ Ended report tt
+          → ((next : Session) → Within b count next → run_of b next later ≡ Ended report tt → Over next later report) → Over s (h ∷ later) report
       from (On next) i m e more =
           let r = more next m.within e in
           let goes : Stepped → Stepped = λ x. onward x (λ n. run_of b n (take r.k later)) in
@@ -142,7 +142,7 @@ module _ (b : Base) (count : ℕ) where
             ends = ap goes i ∙ r.ends;
             not_before = later-before s next h later r.k i r.not_before;
           }
-      from (Ended last) i m e more =
+      from (Ended last left) i m e more =
           let same : last ≡ report = cc in
           let Ends : Report → Type 0 = Over s (h ∷ later) in
           let goes : Stepped → Stepped = λ x. onward x (λ n. On n) in
@@ -205,11 +205,12 @@ opened t b after s m e = from (fragments_of t m) refl b.next e
         → (serial : ℕ) × (s ≡ session_of serial m (count_of t m)) × (fragments_of t m ≡ Ok (count_of t m))
     from (Ok count) i (Some serial) h =
         let known : count ≡ count_of t m = grind (arith, nat_tests) in
-        let pair : (record { route = b.route; limit = b.limit; next = serial_after serial }, session_of serial m count) ≡ (after, s) = cc in
+        let pair : (after, s) ≡ (record { route = b.route; limit = b.limit; next = serial_after serial }, session_of serial m count) = cc in
         let session : Base × Session → Session = λ p. p.1 in
-        (serial, sym (ap session pair) ∙ ap (session_of serial m) known, i ∙ ap Ok known)
-    from (Ok count) i None h = absurd (let z : ◌≡◌ {A = ℕ} 0 1 = cc in omega arith)
-    from (Err fault) i next h = absurd (let z : ◌≡◌ {A = ℕ} 0 1 = cc in omega arith)
+        let same : s ≡ session_of serial m count = ap session pair in
+        (serial, same ∙ ap (session_of serial m) known, i ∙ ap Ok known)
+    from (Ok count) i None h = absurd (cc)
+    from (Err fault) i next h = absurd (cc)
 
 module _ (t : Terms) (sound : Sound t) (b after : Base) (s : Session) (m : ℕ) (e : start_of t b m ≡ Ok (after, s)) where
   pub start-bounded : Bounded t after s (count_of t m)

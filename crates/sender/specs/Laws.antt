@@ -16,8 +16,8 @@ use Rattle.sender.specs.declared.values.Base.{Base}
 use Rattle.sender.specs.declared.values.Session.{Session}
 use Rattle.sender.specs.declared.values.Outcome.TheVariants.{Delivered, NotDelivered, Unknown}
 use Rattle.sender.specs.declared.values.Report.{Report}
-use Rattle.sender.specs.declared.values.Stepped.{Stepped}
-use Rattle.sender.specs.declared.values.Stepped.TheVariants.{On, Ended}
+use Rattle.sender.specs.Steps.{Stepped}
+use Rattle.sender.specs.declared.values.Next.TheVariants.{On, Ended}
 use Rattle.sender.specs.Steps.{is_last, may_retry, end_of, next_fragment, again, block_count}
 use Rattle.sender.specs.Runs.{run_of}
 
@@ -96,7 +96,7 @@ pub record HearRefusals (t : Terms) (b : Base) (s : Session) (xs : List ℕ) (r 
 -- A session that goes on has a packet that can be made.
 abbrev pub OnSendable : Terms → Stepped → Type 0
 OnSendable t (On s) = Sendable t s
-OnSendable t (Ended report) = Unit {0}
+OnSendable t (Ended report left) = Unit {0}
 
 -- A retry with these blocks, while one is left.
 pub record Retried (b : Base) (s : Session) (blocks : Blocks) (after : Stepped) : Type 0 where
@@ -121,7 +121,7 @@ pub record RunEnded (b : Base) (s : Session) (count : ℕ) (heard : List (Option
   pub few : report.packets ≤ count * (b.limit + 1)
   -- it ended at the response to its last packet, and at none before
   pub there : report.packets ≤ length heard
-  pub ends : run_of b s (take report.packets heard) ≡ Ended report
+  pub ends : run_of b s (take report.packets heard) ≡ Ended report tt
   pub not_before : (k : ℕ) → k < report.packets → (now : Session) × (run_of b s (take k heard) ≡ On now)
 
 -- A run that goes on.
@@ -134,5 +134,5 @@ pub record RunGoesOn (t : Terms) (b : Base) (s : Session) (count : ℕ) (heard :
 
 -- A session of so many fragments, whatever is heard in it: it puts out at most R + 1 packets for each.
 pub record Bounded (t : Terms) (b : Base) (s : Session) (count : ℕ) : Type 0 where
-  pub ended : (heard : List (Option Code)) (report : Report) → run_of b s heard ≡ Ended report → RunEnded b s count heard report
+  pub ended : (heard : List (Option Code)) (report : Report) → run_of b s heard ≡ Ended report tt → RunEnded b s count heard report
   pub on : (heard : List (Option Code)) (now : Session) → run_of b s heard ≡ On now → RunGoesOn t b s count heard now

@@ -2,3 +2,5 @@ pub mod Steps
 pub mod Views
 pub mod Runs
 pub mod Laws
+pub mod Words
+pub mod Courses

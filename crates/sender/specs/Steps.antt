@@ -19,8 +19,12 @@ use Rattle.sender.specs.declared.values.Base.{Base}
 use Rattle.sender.specs.declared.values.Session.{Session}
 use Rattle.sender.specs.declared.values.Outcome.{Outcome}
 use Rattle.sender.specs.declared.values.Outcome.TheVariants.{Delivered, NotDelivered, Unknown}
-use Rattle.sender.specs.declared.values.Stepped.{Stepped}
-use Rattle.sender.specs.declared.values.Stepped.TheVariants.{On, Ended}
+use Rattle.sender.specs.declared.values.Next.{Next}
+use Rattle.sender.specs.declared.values.Next.TheVariants.{On, Ended}
+
+-- What a response, or none in time, makes of a session.
+abbrev pub Stepped : Type 0
+Stepped = Next Session (Unit {0})
 
 -- Making
 
@@ -93,7 +97,7 @@ may_retry b s = nat_lt s.used b.limit
 
 -- The session ends, and its report tells how and after how many packets.
 abbrev pub end_of : Session → Outcome → Stepped
-end_of s outcome = Ended (record { serial = s.serial; outcome = outcome; packets = s.packets })
+end_of s outcome = Ended (record { serial = s.serial; outcome = outcome; packets = s.packets }) tt
 
 -- The next fragment: a full packet, with no retries used.
 abbrev pub next_fragment : Session → Session

@@ -1,9 +1,9 @@
 // The states of a sender: each call takes one and hands one on.
-ghost use Rattle.std.specs.Prelude.{ℕ, ◌+◌, ◌*◌, ◌≤◌};
+ghost use Rattle.std.specs.Prelude.{◌≤◌};
 
-use crate::values::{Base, Report, Session};
+use crate::values::{Base, Course};
 use fault::EndFault;
-use std::marker::PhantomData;
+use std::marker::{Model, PhantomData};
 
 pub mod calls;
 
@@ -14,35 +14,31 @@ pub struct Ready<C, K> {
     ghost few: { base.limit ≤ 15 },
 }
 
-// In a session, with a packet to put out.
-pub struct Sending<C, K> {
-    base: Base,
-    session: Session,
+// In a session, with so many packets put out whose response is awaited. A caller sees its course.
+pub struct InSession<C, K, const OUT: u8> {
+    course: Course,
     kind: PhantomData<(C, K)>,
-    ghost few: { base.limit ≤ 15 },
-    ghost tried: { session.used ≤ base.limit },
-    // each fragment so far took at most 16 packets, and the current one as many as its retries
-    ghost counted: { session.packets + 16 * session.number ≤ 1048560 + session.used },
 }
+
+// In a session, with a packet to put out.
+pub type Sending<C, K> = InSession<C, K, 0>;
 
 // In a session, with a packet put out whose response is awaited.
-pub struct Awaiting<C, K> {
-    base: Base,
-    session: Session,
-    kind: PhantomData<(C, K)>,
-    ghost few: { base.limit ≤ 15 },
-    ghost tried: { session.used ≤ base.limit },
-    ghost counted: { session.packets + 16 * session.number ≤ 1048561 + session.used },
+pub type Awaiting<C, K> = InSession<C, K, 1>;
+
+impl<C, K, const OUT: u8> Model for InSession<C, K, OUT> {
+    ghost use Rattle.sender.specs.declared.values.Course.{Course};
+    ghost use Rattle.sender.specs.Courses.{InBounds};
+
+    ghost Value = { Course };
+
+    ghost view = { λ s. s.course };
+
+    ghost invariant = { λ s. InBounds OUT s.course };
 }
 
-// A session goes on, or has ended with a report.
-pub enum Next<C, K> {
-    On(Sending<C, K>),
-    Ended(Report, Ready<C, K>),
-}
-
-// A refused call: the sender as it was, and why.
+// A refused call: the caller's value as it was, and why.
 pub struct Refusal<S> {
-    pub sender: S,
+    pub kept: S,
     pub fault: EndFault,
 }

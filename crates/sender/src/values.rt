@@ -1,5 +1,9 @@
 // What a sender holds and reports, as plain values.
+ghost use Rattle.std.specs.Prelude.{Some};
+ghost use Rattle.sender.specs.Words.{outcome_word, report_words};
+
 use packet::values::{Blocks, Route};
+use std::fmt;
 
 // What lasts from session to session.
 #[derive(Clone, Copy, PartialEq, Eq, Debug)]
@@ -28,6 +32,13 @@ pub struct Session {
     pub packets: u32,
 }
 
+// A session under way, and what lasts past it.
+#[derive(Clone, Copy, PartialEq, Eq, Debug)]
+pub struct Course {
+    pub base: Base,
+    pub session: Session,
+}
+
 #[derive(Clone, Copy, PartialEq, Eq, Debug)]
 pub enum Outcome {
     Delivered,
@@ -45,9 +56,32 @@ pub struct Report {
     pub packets: u32,
 }
 
-// What a response, or none in time, makes of a session.
+// A session goes on, or has ended with a report and what is left after it.
 #[derive(Clone, Copy, PartialEq, Eq, Debug)]
-pub enum Stepped {
-    On(Session),
-    Ended(Report),
+pub enum Next<S, R> {
+    On(S),
+    Ended(Report, R),
+}
+
+impl fmt::Display for Outcome {
+    ghost output = { λ outcome. Some (outcome_word outcome) };
+
+    fn fmt<W: fmt::Write>(&self, f: &mut fmt::Formatter<W>) -> fmt::Result {
+        match self {
+            Self::Delivered => f.write_str("delivered"),
+            Self::NotDelivered => f.write_str("not-delivered"),
+            Self::Unknown => f.write_str("unknown"),
+        }
+    }
+}
+
+impl fmt::Display for Report {
+    ghost output = { λ report. Some (report_words report) };
+
+    fn fmt<W: fmt::Write>(&self, f: &mut fmt::Formatter<W>) -> fmt::Result {
+        let serial = self.serial;
+        let outcome = self.outcome;
+        let packets = self.packets;
+        write!(f, "(report {serial} {outcome} {packets})")
+    }
 }

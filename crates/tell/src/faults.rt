@@ -24,7 +24,7 @@ impl fmt::Display for DrillLayer {
     }
 }
 
-#[derive(Clone, Copy)]
+#[derive(Clone, Copy, PartialEq, Eq, Debug)]
 pub enum DrillFault {
     // An end refuses what the line asks for.
     End(EndFault),
@@ -33,12 +33,13 @@ pub enum DrillFault {
 }
 
 // The line that is refused, counted from 1, or 0 for the whole text; and why.
-#[derive(Clone, Copy)]
+#[derive(Clone, Copy, PartialEq, Eq, Debug)]
 pub struct Refused {
     pub line: usize,
     pub fault: DrillFault,
 }
 
+// As an end's fault has them; no trait, since nothing is generic in a fault.
 impl DrillFault {
     pub fn number(&self) -> u8
         ensures { result ≡ drill_number self.now }

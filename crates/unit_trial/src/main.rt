@@ -15,8 +15,8 @@ fn main(rt: HostRuntime) -> anyhow::Result<()> {
     let mut input = String::new(heap);
     rt.stdin().read_to_string(&mut input)?;
     let mut text = String::new(heap);
-    drive::<DataCall, Sum>(heap, "data", &input, &mut text);
-    drive::<VoiceAlongCall, Polynomial>(heap, "voice", &input, &mut text);
+    drive::<DataCall, Sum>("data", &input, &mut text);
+    drive::<VoiceAlongCall, Polynomial>("voice", &input, &mut text);
     rt.write_all(text.as_bytes())?;
     Ok(())
 }

@@ -70,7 +70,7 @@ const VECTORS: [Vector; 7] = [
 
 fn main(rt: HostRuntime) -> io::Result<()> {
     for vector in &VECTORS {
-        let octets = octets_of(rt.alloc(), vector.count, vector.first, vector.step)?;
+        let octets = vector.octets(rt.alloc())?;
         let whole = number_of::<Polynomial>(&octets);
         let parted = number_in_parts::<Polynomial>(&octets);
         let name = vector.name;
@@ -80,17 +80,19 @@ fn main(rt: HostRuntime) -> io::Result<()> {
     Ok(())
 }
 
-// The octets of a vector.
-fn octets_of(heap: Global, count: usize, first: u8, step: u8) -> Result<Vec<u8>, AllocError>
-    ensures { IfOk result (λ v. (vec_len v ≡ count) × ((k : ℕ) → k < count → slice_index v.items k ≡ (first + k * step) % 256)) }
-{
-    let mut octets = Vec::new(heap);
-    let mut octet = first;
-    for _ in 0..count {
-        octets.push(octet)?;
-        octet = octet.wrapping_add(step);
+impl Vector {
+    fn octets(&self, heap: Global) -> Result<Vec<u8>, AllocError>
+        ensures { IfOk result (λ v. (vec_len v ≡ self.now.count) × ((k : ℕ) → k < self.now.count → slice_index v.items k ≡ (self.now.first + k * self.now.step) % 256)) }
+    {
+        let mut octets = Vec::new(heap);
+        let mut octet = self.first;
+        // Each octet is made of the one before, so a chain over the count would multiply.
+        for _ in 0..self.count {
+            octets.push(octet)?;
+            octet = octet.wrapping_add(self.step);
+        }
+        Ok(octets)
     }
-    Ok(octets)
 }
 
 // As `number_of`, from parts of one octet, two octets, three octets and so on.
@@ -98,12 +100,12 @@ fn number_in_parts<K: Check>(octets: &[u8]) -> u32
     ensures { result ≡ K.Check.number octets.now }
 {
     let mut check = K::start();
-    let mut read = 0;
+    let mut rest = octets;
     let mut size = 1;
-    while read < octets.len() {
-        let end = read + size.min(octets.len() - read);
-        check.update(&octets[read..end]);
-        read = end;
+    while !rest.is_empty() {
+        let (part, more) = rest.split_at(size.min(rest.len()));
+        check.update(part);
+        rest = more;
         size += 1;
     }
     check.finish()

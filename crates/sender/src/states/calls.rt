@@ -5,11 +5,11 @@ ghost use Rattle.fragment.specs.Cutting.{count_of};
 ghost use Rattle.packet.specs.Responses.{response_at};
 ghost use Rattle.sender.specs.Laws.{NewRefusals, StartRefusals, TakesSerial, Sendable, PutRefusals, HearRefusals, OnSendable, Rows, Bounded};
 ghost use Rattle.sender.specs.Steps.{fresh_of, start_of, put_of, step_of, hear_of};
-ghost use Rattle.sender.specs.Views.{fresh_in, start_in, put_in, next_in, next_base, hear_in};
+ghost use Rattle.sender.specs.Courses.{InBounds};
+ghost use Rattle.sender.specs.Views.{OnInBounds, fresh_in, start_in, put_in, next_in, next_base, hear_in};
 
-use super::{Awaiting, Next, Ready, Refusal, Sending};
-use crate::steps::{admit, begin, step, write};
-use crate::values::{Base, Session, Stepped};
+use super::{Awaiting, InSession, Ready, Refusal, Sending};
+use crate::values::{Base, Course, Next, Session};
 use check32::Check;
 use fault::EndFault;
 use fragment::carrier::Carrier;
@@ -44,22 +44,19 @@ impl<C: Carrier, K: Check> Ready<C, K> {
     // Opens a session for a message, with the next serial.
     pub fn start(self, message: &[u8]) -> Result<Sending<C, K>, Refusal<Ready<C, K>>>
         ensures value { start_in result ≡ start_of C.Carrier.terms self.base (length message.now) }
-        ensures back { IfErr result (λ y. y.sender ≡ self) }
+        ensures back { IfErr result (λ y. y.kept ≡ self) }
         ensures refusals { StartRefusals C.Carrier.terms self.base (length message.now) (start_in result) }
         ensures serial { IfOk result (λ y. TakesSerial self.base y.session y.base) }
         ensures sendable { IfOk result (λ y. Sendable C.Carrier.terms y.session) }
         ensures bounded { IfOk result (λ y. Bounded C.Carrier.terms y.base y.session (count_of C.Carrier.terms (length message.now))) }
+        ensures bounds { IfOk result (InBounds 0) }
     {
-        match begin::<C>(self.base, message.len()) {
-            Err(fault) => Err(Refusal {
-                sender: self,
-                fault,
-            }),
+        match self.base.begin::<C>(message.len()) {
+            Err(fault) => Err(Refusal { kept: self, fault }),
             Ok((base, session)) => {
                 let Ready { base: _, kind } = self;
                 Ok(Sending {
-                    base,
-                    session,
+                    course: Course { base, session },
                     kind,
                 })
             }
@@ -76,29 +73,23 @@ impl<C: Carrier, K: Check> Sending<C, K> {
     ) -> Result<(Awaiting<C, K>, usize), Refusal<Sending<C, K>>>
         ensures value { put_in result packet.new ≡ put_of C.Carrier.terms K.Check.number self.base self.session message.now packet.old }
         ensures kept { IfOk result (λ y. y.0.base ≡ self.base) }
-        ensures back { IfErr result (λ y. y.sender ≡ self) }
+        ensures back { IfErr result (λ y. y.kept ≡ self) }
         ensures refusals { Sendable C.Carrier.terms self.session → PutRefusals C.Carrier.terms self.session message.now packet.old (put_in result packet.new).answer }
         ensures sendable { IfOk result (λ y. Sendable C.Carrier.terms self.session → Sendable C.Carrier.terms y.0.session) }
+        ensures bounds { IfOk result (λ y. InBounds 1 y.0) }
     {
-        match write::<C, K>(self.base, self.session, message, packet) {
-            Err(fault) => Err(Refusal {
-                sender: self,
-                fault,
-            }),
+        match self.course.write::<C, K>(message, packet) {
+            Err(fault) => Err(Refusal { kept: self, fault }),
             Ok(length) => {
-                let Sending {
-                    base,
-                    session,
-                    kind,
-                } = self;
+                let Sending { course, kind } = self;
+                let Course { base, session } = course;
                 let session = Session {
                     packets: session.packets + 1,
                     ..session
                 };
                 Ok((
                     Awaiting {
-                        base,
-                        session,
+                        course: Course { base, session },
                         kind,
                     },
                     length,
@@ -110,49 +101,48 @@ impl<C: Carrier, K: Check> Sending<C, K> {
 
 impl<C: Carrier, K: Check> Awaiting<C, K> {
     // Takes a response to the packet that was put out.
-    pub fn hear(self, response: &[u8]) -> Result<Next<C, K>, Refusal<Awaiting<C, K>>>
+    pub fn hear(
+        self,
+        response: &[u8],
+    ) -> Result<Next<Sending<C, K>, Ready<C, K>>, Refusal<Awaiting<C, K>>>
         ensures value { hear_in result ≡ hear_of C.Carrier.terms self.base self.session response.now }
         ensures kept { IfOk result (λ y. next_base y ≡ self.base) }
-        ensures back { IfErr result (λ y. y.sender ≡ self) }
+        ensures back { IfErr result (λ y. y.kept ≡ self) }
         ensures refusals { HearRefusals C.Carrier.terms self.base self.session response.now (hear_in result) }
         ensures sendable { IfOk result (λ y. Sendable C.Carrier.terms self.session → OnSendable C.Carrier.terms (next_in y)) }
         ensures rows { IfOk result (λ y. Rows self.base self.session (option.Some (response_at response.now).code) (next_in y)) }
+        ensures bounds { IfOk result OnInBounds }
     {
-        match admit::<C>(self.base, self.session, response) {
-            Err(fault) => Err(Refusal {
-                sender: self,
-                fault,
-            }),
+        match self.course.admit::<C>(response) {
+            Err(fault) => Err(Refusal { kept: self, fault }),
             Ok(code) => Ok(self.learn(Some(code))),
         }
     }
 
     // No response was heard in time.
-    pub fn wait_over(self) -> Next<C, K>
+    pub fn wait_over(self) -> Next<Sending<C, K>, Ready<C, K>>
         ensures value { next_in result ≡ step_of self.base self.session option.None }
         ensures kept { next_base result ≡ self.base }
         ensures sendable { Sendable C.Carrier.terms self.session → OnSendable C.Carrier.terms (next_in result) }
         ensures rows { Rows self.base self.session option.None (next_in result) }
+        ensures bounds { OnInBounds result }
     {
         self.learn(None)
     }
 
-    fn learn(self, heard: Option<Code>) -> Next<C, K>
+    fn learn(self, heard: Option<Code>) -> Next<Sending<C, K>, Ready<C, K>>
         ensures value { next_in result ≡ step_of self.base self.session heard }
         ensures kept { next_base result ≡ self.base }
+        ensures bounds { OnInBounds result }
     {
-        let Awaiting {
-            base,
-            session,
-            kind,
-        } = self;
-        match step(base, session, heard) {
-            Stepped::On(session) => Next::On(Sending {
-                base,
-                session,
+        let Awaiting { course, kind } = self;
+        let base = course.base;
+        match course.step(heard) {
+            Next::On(session) => Next::On(Sending {
+                course: Course { base, session },
                 kind,
             }),
-            Stepped::Ended(report) => Next::Ended(report, Ready { base, kind }),
+            Next::Ended(report, ()) => Next::Ended(report, Ready { base, kind }),
         }
     }
 }
@@ -167,29 +157,14 @@ impl<C: Carrier, K: Check> Ready<C, K> {
     }
 }
 
-impl<C: Carrier, K: Check> Sending<C, K> {
+impl<C: Carrier, K: Check, const OUT: u8> InSession<C, K, OUT> {
     pub fn retire(self) -> (Base, Session)
         ensures { result ≡ (self.base, self.session) }
     {
-        let Sending {
-            base,
-            session,
+        let InSession {
+            course: Course { base, session },
             kind: _,
         } = self;
         (base, session)
-    }
-}
-
-impl<C: Carrier, K: Check> Awaiting<C, K> {
-    pub fn retire(self) -> (Base, Session)
-        ensures { result ≡ (self.base, self.session) }
-    {
-        let Awaiting {
-            base,
-            session,
-            kind: _,
-        } = self;
-        let held = (base, session);
-        held
     }
 }

@@ -1,25 +1,8 @@
--- A response is heard, or is refused and then as none.
-use Rattle.std.proofs.Common.{◌∙◌}
-use Rattle.exchange.proofs.Reaching.{heard-reached, refused-unheard, step_back, base_back}
+-- A response that the sender takes is the one that reaches it.
+use Rattle.exchange.proofs.Reaching.{heard-reached}
 use Rattle.exchange.proofs.settling.settle.Goals as goal
 
-pub returns-in-Ok : goal.returns-in-Ok
-returns-in-Ok g c =
+pub returns-in-Ok-clause-value : goal.returns-in-Ok-clause-value
+returns-in-Ok-clause-value g c =
     let y = c.args.sender in
-    record {
-      value = heard-reached g.C.Carrier.terms y.base y.session c.in-Some.octets c.args.response _ c.in-Some.is c.in-Ok.ensures.value;
-      kept = c.in-Ok.ensures.kept;
-    }
-
-pub returns-in-Err : goal.returns-in-Err
-returns-in-Err g c =
-    let t = g.C.Carrier.terms in
-    let y = c.args.sender in
-    let back = c.in-Err.ensures.back in
-    record {
-      value =
-          c.wait_over-in-Err.ensures.value
-          ∙ step_back back
-          ∙ refused-unheard t y.base y.session c.in-Some.octets c.args.response _ c.in-Some.is c.in-Err.ensures.value;
-      kept = c.wait_over-in-Err.ensures.kept ∙ base_back back;
-    }
+    heard-reached g.C.Carrier.terms y.base y.session c.in-Some.octets c.args.response _ c.in-Some.is c.in-Ok.ensures.value

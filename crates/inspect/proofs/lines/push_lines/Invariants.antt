@@ -3,11 +3,11 @@ use Rattle.std.proofs.Common.{◌≡◌, ◌+◌, ◌≤◌, ◌++◌, length, s
 use Rattle.inspect.specs.Lines.{lines_of, answers_from}
 use Rattle.inspect.proofs.lines.push_lines.Given as goal
 
-abbrev pub invariant-loop-rest : goal.invariant-loop-rest
-invariant-loop-rest g l =
+abbrev pub invariant-loop-digits : goal.invariant-loop-digits
+invariant-loop-digits g l =
     (string_bytes l.text ++ answers_from g.C.Carrier.terms l.line (lines_of l.rest)
     ≡ string_bytes l.initial.text ++ answers_from g.C.Carrier.terms 1 (lines_of l.input))
     × (l.line + length l.rest ≤ length l.input + 1)
 
-abbrev pub decreases-loop-rest : goal.decreases-loop-rest
-decreases-loop-rest g l = length l.rest
+abbrev pub decreases-loop-digits : goal.decreases-loop-digits
+decreases-loop-digits g l = length l.rest

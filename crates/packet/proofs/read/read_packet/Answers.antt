@@ -4,6 +4,9 @@ use Rattle.fault.specs.declared.PacketFault.TheVariants.{Length}
 use Rattle.packet.proofs.ReadRefusals.{answered}
 use Rattle.packet.proofs.read.read_packet.Goals as goal
 
+pub returns-in_err-front : goal.returns-in_err-front
+returns-in_err-front g c = answered g.C.Carrier.terms c.args.octets.now _ (search rules)
+
 pub returns-in_err-header : goal.returns-in_err-header
 returns-in_err-header g c = answered g.C.Carrier.terms c.args.octets.now _ (search rules)
 

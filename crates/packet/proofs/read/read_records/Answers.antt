@@ -1,14 +1,7 @@
 -- A turn reads one record.
-use Rattle.std.proofs.Common.{◌≡◌, ◌+◌, ◌*◌, ap, arith}
 use Rattle.std.proofs.lemmas.Result.{err_from_is_err_and}
-use Rattle.packet.proofs.Records.{record-within, record-more}
+use Rattle.packet.proofs.Records.{record-more}
 use Rattle.packet.proofs.read.read_records.Goals as goal
-
-pub read_record-requires : goal.read_record-requires
-read_record-requires c =
-    let w = record-within c.args.size c.args.header.now.records c.loop-i.i c.loop-i-test.true c.requires.few c.requires.narrow in
-    let e : c.from.result * (c.args.size + 3) ≡ c.loop-i.i * (c.args.size + 3) = ap (λ n. n * (c.args.size + 3)) c.from.ensures in
-    record { there = c.loop-i-test.true; room = omega (arith, c.requires.whole) }
 
 pub returns-in_err-least : goal.returns-in_err-least
 returns-in_err-least c =

@@ -1,12 +1,13 @@
--- The second text is tried where the line is not the first.
-use Rattle.script.proofs.Choosing.{the-first, the_second, neither}
+-- The name is one of two words.
+use Rattle.std.proofs.Common.{codes, refl}
+use Rattle.fragment.specs.declared.name.CarrierName.TheVariants.{Data, Voice}
+use Rattle.fragment.specs.Names.{ReadsCarrier}
+use Rattle.script.proofs.Names.{NamesTwo, named-two}
 use Rattle.script.proofs.heads.read_carrier.Goals as goal
 
-pub returns-then-is_word : goal.returns-then-is_word
-returns-then-is_word c = the-first _ _ _ _ c.if-is_word.ensures
+names : NamesTwo ReadsCarrier (codes "data") (codes "voice") Data Voice
+names = record { first = λ r g. g.data_word refl; second = λ r g. g.voice_word refl; others = λ name r g n1 n2. g.wrong n1 n2 }
 
-pub returns-then-is_word-2 : goal.returns-then-is_word-2
-returns-then-is_word-2 c = the_second _ _ _ _ c.if-is_word.ensures c.if-is_word-2.ensures
-
-pub returns-else-is_word-2 : goal.returns-else-is_word-2
-returns-else-is_word-2 c = neither _ _ _ _ c.if-is_word.ensures c.if-is_word-2.ensures
+pub returns : goal.returns
+returns c =
+    named-two ReadsCarrier (codes "data") (codes "voice") (codes "(carrier ") c.args.line.now Data Voice names c.read_named.result c.read_named.ensures refl refl

@@ -1,12 +1,13 @@
--- The second text is tried where the line is not the first.
-use Rattle.script.proofs.Choosing.{the-first, the_second, neither}
+-- The name is one of two words.
+use Rattle.std.proofs.Common.{codes, refl}
+use Rattle.check32.specs.declared.name.CheckName.TheVariants.{Polynomial, Sum}
+use Rattle.check32.specs.Names.{ReadsCheck}
+use Rattle.script.proofs.Names.{NamesTwo, named-two}
 use Rattle.script.proofs.heads.read_check.Goals as goal
 
-pub returns-then-is_word : goal.returns-then-is_word
-returns-then-is_word c = the-first _ _ _ _ c.if-is_word.ensures
+names : NamesTwo ReadsCheck (codes "poly") (codes "sum") Polynomial Sum
+names = record { first = λ r g. g.poly_word refl; second = λ r g. g.sum_word refl; others = λ name r g n1 n2. g.wrong n1 n2 }
 
-pub returns-then-is_word-2 : goal.returns-then-is_word-2
-returns-then-is_word-2 c = the_second _ _ _ _ c.if-is_word.ensures c.if-is_word-2.ensures
-
-pub returns-else-is_word-2 : goal.returns-else-is_word-2
-returns-else-is_word-2 c = neither _ _ _ _ c.if-is_word.ensures c.if-is_word-2.ensures
+pub returns : goal.returns
+returns c =
+    named-two ReadsCheck (codes "poly") (codes "sum") (codes "(check ") c.args.line.now Polynomial Sum names c.read_named.result c.read_named.ensures refl refl

@@ -7,19 +7,6 @@ use Rattle.script.proofs.Came.{figure-most}
 use Rattle.script.proofs.Records.{record-room, record-more, record-low, record-none, records-end, records-all}
 use Rattle.script.proofs.turns.read_records.Goals as goal
 
-pub overflow_shl-bad : goal.overflow_shl-bad
-overflow_shl-bad c = omega (arith, figure-most 15 c.in-Some.more.now c.in_ok-record.record c.in_ok-record.more.now c.in_ok-record.ensures)
-
-pub overflow_add-least : goal.overflow_add-least
-overflow_add-least c = omega (arith, figure-most 15 c.in-Some.more.now c.in_ok-record.record c.in_ok-record.more.now c.in_ok-record.ensures)
-
-pub overflow_add-bad : goal.overflow_add-bad
-overflow_add-bad c =
-    let few = figure-most 15 c.in-Some.more.now c.in_ok-record.record c.in_ok-record.more.now c.in_ok-record.ensures in
-    let room = record-room c.loop.least c.loop.bad c.in_ok-record.record c.loop.invariant.1 c.if-record-least.false few in
-    let bit = one_shl c.in_ok-record.record 16 (omega (arith, few)) in
-    omega arith
-
 pub loop-preserved : goal.loop-preserved
 loop-preserved c =
     let least = c.loop.least in
