@@ -9,16 +9,13 @@ use crate::arguments::Order;
 use crate::joining::{holds, packet_data};
 use crate::outcome::Outcome;
 use check32::Check;
-use fragment::carrier::{Carrier, DataCall, MOST_BLOCKS};
+use fragment::carrier::Carrier;
 use fragment::cutting::fragment_count;
 use fragment::piece::Fragment;
 use hex_digits::Hex;
 use packet::values::Blocks;
-use packet::write::{HEADER_OCTETS, RECORD_OCTETS, write_packet};
+use packet::write::{LONGEST_PACKET, write_packet};
 use std::alloc::{AllocError, Global};
-
-// The octets of the longest packet: a header, and as many records as a fragment has blocks, of the longest.
-const LONGEST: usize = HEADER_OCTETS + MOST_BLOCKS * (DataCall::BLOCK + RECORD_OCTETS);
 
 // The full packet of fragment `number`, or none where the message has no such fragment.
 fn packet_of<C: Carrier, K: Check>(
@@ -32,7 +29,7 @@ fn packet_of<C: Carrier, K: Check>(
     let Some(fragment) = Fragment::<C>::cut(message.len(), number) else {
         return Ok(None);
     };
-    let mut packet = vec![in heap; 0; LONGEST]?;
+    let mut packet = vec![in heap; 0; LONGEST_PACKET]?;
     let Ok(length) = write_packet::<C, K>(
         order.route,
         order.serial,

@@ -49,7 +49,7 @@ fn obey(order: Order, message: &[u8], text: &mut String) -> Result<Outcome, Allo
     ensures lines { OnOk result (string_bytes text.new ≡ string_bytes text.old ++ lines_of (terms_of order.carrier) (number_by order.check) order message.now (fragments_of (terms_of order.carrier) (length message.now))) }
     ensures value { IfOk result (λ outcome. outcome ≡ outcome_of (terms_of order.carrier) (number_by order.check) order message.now (fragments_of (terms_of order.carrier) (length message.now))) }
 {
-    // A match, since each arm is an instance of a generic function, which no closure can be.
+    // A match, since types are chosen here: a table of functions would list the same four.
     match (order.carrier, order.check) {
         (CarrierName::Data, CheckName::Polynomial) => cut::<DataCall, Polynomial>(
             order, message, text,

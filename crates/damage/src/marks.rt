@@ -2,13 +2,12 @@
 ghost use Rattle.std.specs.Prelude.{◌≡◌, ℕ, ◌+◌, ◌<◌, ◌≤◌, true, false, length, Some, MatchOption, slice_set};
 ghost use Rattle.packet.specs.declared.values.Quality.TheVariants.{Bad};
 ghost use Rattle.packet.specs.Layout.{quality_number};
-ghost use Rattle.packet.specs.Reading.{record_place};
 ghost use Rattle.damage.specs.Damage.{comes_bad, spoilt_from, altered_place, altered_by, counts, damaged};
 
 use air::fate::{Alteration, Hearing};
 use fragment::carrier::{Carrier, MOST_BLOCKS};
 use packet::values::{BlockSet, Quality};
-use packet::write::{HEADER_OCTETS, RECORD_OCTETS};
+use packet::write::{RECORD_OCTETS, record_place};
 
 // The most records of a packet.
 const RECORDS: u8 = MOST_BLOCKS as u8;
@@ -18,14 +17,6 @@ fn comes_bad(hearing: Hearing, i: u8) -> bool
     ensures { result ≡ comes_bad hearing i }
 {
     BlockSet(hearing.bad).contains(i)
-}
-
-// Where record i begins.
-fn record_place<C: Carrier>(i: u8) -> usize
-    ensures value { result ≡ record_place C.Carrier.terms.block i }
-    ensures bound { result ≤ 10000 }
-{
-    HEADER_OCTETS + usize::from(i) * (C::block_size() + RECORD_OCTETS)
 }
 
 // The octet at a place, if it is there, becomes the quality of a bad record.
@@ -42,10 +33,11 @@ fn mark(octets: &mut [u8], place: usize)
 fn spoil<C: Carrier>(octets: &mut [u8], hearing: Hearing)
     ensures { octets.new ≡ spoilt_from C.Carrier.terms.block hearing 16 0 octets.old }
 {
+    let size = C::block_size() as u8;
     // By number, since marks name records by number.
     for i in 0..RECORDS {
         if comes_bad(hearing, i) {
-            mark(octets, record_place::<C>(i) + 2);
+            mark(octets, record_place(size, i) + 2);
         }
     }
 }
@@ -58,7 +50,7 @@ fn counted_place<C: Carrier>(
 ) -> Option<usize>
     ensures { MatchOption result (counts C.Carrier.terms.block hearing octets.now alteration ≡ false) (λ place. (counts C.Carrier.terms.block hearing octets.now alteration ≡ true) × (place ≡ altered_place C.Carrier.terms.block alteration) × (place < length octets.now)) }
 {
-    let place = record_place::<C>(alteration.record)
+    let place = record_place(C::block_size() as u8, alteration.record)
         + RECORD_OCTETS
         + usize::from(alteration.place);
     let counts = usize::from(alteration.place) < C::block_size()

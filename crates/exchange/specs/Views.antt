@@ -10,7 +10,7 @@ use Rattle.sender.specs.Steps.{Stepped}
 use Rattle.sender.specs.declared.values.Next.{Next}
 use Rattle.sender.specs.declared.values.Next.TheVariants.{On, Ended}
 use Rattle.sender.specs.declared.states.Ready.{Ready}
-use Rattle.sender.specs.declared.values.Course.{Course}
+use Rattle.sender.specs.declared.states.InSession.{InSession}
 use Rattle.sender.specs.declared.states.Refusal.{Refusal}
 use Rattle.sender.specs.Steps.{fresh_of}
 use Rattle.sender.specs.Views.{next_in, next_base}
@@ -31,7 +31,7 @@ abbrev pub Rested : Type 0 → Type 0 → Type 0
 Rested C K = Ends (Ready C K) (Receiver C K)
 
 abbrev pub Going : Type 0 → Type 0 → Type 0
-Going C K = Ends Course (Receiver C K)
+Going C K = Ends (InSession C K 0) (Receiver C K)
 
 -- Making
 
@@ -113,7 +113,7 @@ pub record Joined : Type 0 where
   pub state : State
   pub stepped : Stepped
 
-abbrev pub join_of : {C K : Type 0} → Next Course (Ready C K) → Receiver C K → Joined
+abbrev pub join_of : {C K : Type 0} → Next (InSession C K 0) (Ready C K) → Receiver C K → Joined
 join_of stage y = record { base = next_base stage; route = y.route; state = y.state; stepped = next_in stage }
 
 abbrev pub joined_in : {C K : Type 0} → Next (Going C K) (Rested C K) → Joined

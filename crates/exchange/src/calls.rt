@@ -5,13 +5,14 @@ ghost use Rattle.agreement.specs.Turns.{turn_of};
 ghost use Rattle.exchange.specs.Claims.{FreshReached, StartAgrees, TurnAgrees};
 ghost use Rattle.exchange.specs.Views.{fresh_pair_of, fresh_pair_in, start_in, pair_of, turn_in, brief_of, panel_of};
 
-use crate::hearing::{LONGEST, Listener};
+use crate::hearing::Listener;
 use crate::pair::{Ends, Exchange, Transfer, Turned, let_go};
 use crate::settling::{join, settle};
 use air::airs::Air;
 use check32::Check;
 use fault::EndFault;
 use fragment::carrier::Carrier;
+use packet::write::LONGEST_PACKET;
 use receiver::receiver::Receiver;
 use sender::states::{Ready, Refusal};
 use sender::values::{Base, Session};
@@ -84,7 +85,7 @@ impl<C: Carrier, K: Check> Transfer<C, K> {
         ensures agrees { TurnAgrees C.Carrier.terms K.Check.number self message.now store.old (F.Air.fates air.old) result store.new (F.Air.fates air.new) }
     {
         let Ends { sender, receiver } = self;
-        let mut packet = [0; LONGEST];
+        let mut packet = [0; LONGEST_PACKET];
         match sender.put_out(message, &mut packet) {
             Ok((sender, octets)) => {
                 let mut listener = Listener {

@@ -13,15 +13,13 @@ use check32::Check;
 use damage::marks::damage;
 use fault::EndFault;
 use fragment::carrier::Carrier;
+use packet::write::{HEADER_OCTETS, LONGEST_PACKET};
 use receiver::calls::message_in;
 use receiver::receiver::Receiver;
 use receiver::state::{HandUp, Heard};
 
-// The octets of the longest packet of any carrier, in fixed memory: the ends have no heap.
-pub(crate) const LONGEST: usize = 378;
-
 // The octets of a response.
-pub(crate) const RESPONSE: usize = 10;
+pub(crate) const RESPONSE: usize = HEADER_OCTETS;
 
 // What the hearings of a turn have brought so far: what was handed up, and the first response heard.
 #[derive(Clone, Copy)]
@@ -66,7 +64,8 @@ impl<C: Carrier, K: Check> Listener<'_, C, K> {
         ensures value { called result self.new.receiver.state store.new response.new ≡ call_of C.Carrier.terms K.Check.number self.old.receiver.route self.old.receiver.state store.old (damaged C.Carrier.terms.block hearing self.old.packet.now) response.old }
         ensures kept { (self.new.receiver.route ≡ self.old.receiver.route) × (self.new.packet ≡ self.old.packet) }
     {
-        let mut octets = [0; LONGEST];
+        // Fixed memory: the ends have no heap.
+        let mut octets = [0; LONGEST_PACKET];
         let heard = &mut octets[0..self.packet.len()];
         heard.copy_from_slice(self.packet);
         damage::<C>(heard, hearing);

@@ -2,6 +2,8 @@
 ghost use Rattle.std.specs.Prelude.{◌≡◌};
 ghost use Rattle.fragment.specs.Streams.{split_of, joined_of};
 
+use crate::cutting::SERIAL_OCTETS;
+
 // What a joined stream holds.
 #[derive(Clone, Copy, PartialEq, Eq, Debug)]
 pub struct Joined<'a> {
@@ -13,11 +15,9 @@ pub struct Joined<'a> {
 pub fn split_stream(stream: &[u8]) -> Option<Joined<'_>>
     ensures { joined_of result ≡ split_of stream.now }
 {
-    let [a, b, c, d, message @ ..] = stream else {
-        return None;
-    };
+    let (serial, message) = stream.split_first_chunk::<SERIAL_OCTETS>()?;
     Some(Joined {
-        serial: u32::from_be_bytes([*a, *b, *c, *d]),
+        serial: u32::from_be_bytes(*serial),
         message,
     })
 }

@@ -7,7 +7,6 @@ mod packets;
 mod responses;
 
 use anyhow::anyhow;
-use fragment::carrier::{DataCall, VoiceAlongCall};
 use fragment::name::CarrierName;
 use lines::push_lines;
 use std::io::Read;
@@ -22,11 +21,7 @@ fn main(rt: HostRuntime) -> anyhow::Result<()> {
     let mut input = Vec::new(heap);
     rt.stdin().read_to_end(&mut input)?;
     let mut text = String::new(heap);
-    // Each arm is an instance of a generic function, which no closure can be.
-    match carrier {
-        CarrierName::Data => push_lines::<DataCall>(&mut text, &input)?,
-        CarrierName::Voice => push_lines::<VoiceAlongCall>(&mut text, &input)?,
-    }
+    push_lines(&mut text, carrier, &input)?;
     rt.write_all(text.as_bytes())?;
     Ok(())
 }

@@ -8,12 +8,12 @@ use Rattle.packet.specs.declared.values.Header.{Header}
 use Rattle.packet.specs.Reading.{Block, and_then, record_of, records_from, record_place, block_at}
 
 -- What one record gives, and then the others, is what is left to read.
-pub record-more : (size : ℕ) (h : Header) (xs : List ℕ) (k i n least : ℕ) (r all : Result ℕ PacketFault) → i < k → n ≡ i
-    → r ≡ record_of h xs i least (record_place size n) → records_from size h xs (k - i) i least ≡ all
+pub record-more : (size : ℕ) (h : Header) (xs : List ℕ) (k i least : ℕ) (r all : Result ℕ PacketFault) → i < k
+    → r ≡ record_of h xs i least (record_place size i) → records_from size h xs (k - i) i least ≡ all
     → and_then r (λ next. records_from size h xs (k - (i + 1)) (i + 1) next) ≡ all
-record-more size h xs k i n least r all l en e inv =
+record-more size h xs k i least r all l e inv =
     let s : k - i ≡ suc (k - (i + 1)) = omega arith in
-    rw e (rw en (rw s at inv))
+    rw e (rw s at inv)
 
 -- The block that a record's octets hold.
 abbrev pub block_in_octets : List ℕ → Option Block

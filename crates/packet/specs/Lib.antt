@@ -4,8 +4,10 @@ pub mod Blocks
 pub mod Images
 pub mod Sealing
 pub mod Layout
+pub mod Routes
 pub mod Reading
 pub mod Views
+pub mod Records
 pub mod Responses
 pub mod ReadBack
 pub mod Refusals

@@ -4,9 +4,7 @@ ghost use Rattle.packet.specs.Layout.{flags_of};
 ghost use Rattle.packet.specs.Reading.{flags_fit, is_start, is_selective, front_of};
 ghost use Rattle.packet.specs.Responses.{front_octets};
 
-use crate::octets::read_two;
 use crate::values::{Kind, Route};
-use crate::write::HEADER_OCTETS;
 use fault::PacketFault;
 use fragment::carrier::Carrier;
 
@@ -27,23 +25,34 @@ impl Front {
     pub(crate) fn read(octets: &[u8], kind: Kind) -> Result<Front, PacketFault>
         ensures { result ≡ front_of kind octets.now }
     {
-        let length = octets.len();
-        if length < HEADER_OCTETS {
-            return Err(PacketFault::Length(length));
-        }
-        if octets[0] != u8::from(kind) {
+        let [
+            first,
+            from,
+            from_low,
+            to,
+            to_low,
+            shape,
+            number,
+            number_low,
+            eighth,
+            ninth,
+            ..
+        ] = *octets
+        else {
+            return Err(PacketFault::Length(octets.len()));
+        };
+        if first != u8::from(kind) {
             return Err(PacketFault::Kind);
         }
-        let route = Route {
-            source: read_two(octets, 1),
-            destination: read_two(octets, 3),
-        };
         Ok(Front {
             kind,
-            route,
-            shape: octets[5],
-            number: read_two(octets, 6),
-            last: [octets[8], octets[9]],
+            route: Route {
+                source: u16::from_be_bytes([from, from_low]),
+                destination: u16::from_be_bytes([to, to_low]),
+            },
+            shape,
+            number: u16::from_be_bytes([number, number_low]),
+            last: [eighth, ninth],
         })
     }
 

@@ -8,7 +8,7 @@ ghost use Rattle.packet.specs.Views.{block_in, header_in, seen_in, seen_of};
 use crate::front::{Flags, Front};
 use crate::packets::{Block, Packet};
 use crate::values::{Header, Kind, Quality};
-use crate::write::{HEADER_OCTETS, RECORD_OCTETS};
+use crate::write::{RECORD_OCTETS, record_place};
 use fault::PacketFault;
 use fragment::carrier::Carrier;
 
@@ -45,53 +45,6 @@ fn header_from<C: Carrier>(front: Front) -> Result<Header, PacketFault>
     })
 }
 
-// Reads the front of record i, and answers the least block number of the next good one.
-fn read_record(
-    octets: &[u8],
-    header: &Header,
-    i: u8,
-    least: u8,
-    place: usize,
-) -> Result<u8, PacketFault>
-    requires there { i < header.now.records }
-    requires room { place + 2 < length octets.now }
-    ensures { result ≡ record_of header.now octets.now i least place }
-{
-    match Quality::try_from(octets[place + 2]) {
-        Ok(Quality::Good) => {}
-        Ok(Quality::Bad) => return Ok(least),
-        Err(_) => return Err(PacketFault::Field(place + 2)),
-    }
-    let block = octets[place];
-    let fits = if header.selective {
-        block >= least && block < 16
-    } else {
-        block == i
-    };
-    if !fits {
-        return Err(PacketFault::Field(place));
-    }
-    if octets[place + 1] != header.records - 1 - i {
-        return Err(PacketFault::Field(place + 1));
-    }
-    Ok(block + 1)
-}
-
-fn read_records(octets: &[u8], header: &Header, size: usize) -> Result<u8, PacketFault>
-    requires whole { length octets.now ≡ packet_length size header.now.records }
-    requires few { header.now.records ≤ 16 }
-    requires narrow { size ≤ 20 }
-    ensures { result ≡ records_from size header.now octets.now header.now.records 0 0 }
-{
-    let mut least = 0;
-    // By number, since a record's number is itself tested.
-    for i in 0..header.records {
-        let place = HEADER_OCTETS + usize::from(i) * (size + RECORD_OCTETS);
-        least = read_record(octets, header, i, least, place)?;
-    }
-    Ok(least)
-}
-
 // Reads a packet, or says where its lowest wrong field is.
 pub fn read_packet<C: Carrier>(octets: &[u8]) -> Result<Packet<'_>, PacketFault>
     ensures value { seen_in result ≡ seen_of C.Carrier.terms octets.now }
@@ -99,20 +52,60 @@ pub fn read_packet<C: Carrier>(octets: &[u8]) -> Result<Packet<'_>, PacketFault>
 {
     let front = Front::read(octets, Kind::Packet)?;
     let header = header_from::<C>(front)?;
-    let size = C::block_size();
+    let packet = Packet {
+        header,
+        size: C::block_size() as u8,
+        octets,
+    };
     let length = octets.len();
-    if length != HEADER_OCTETS + usize::from(header.records) * (size + RECORD_OCTETS) {
+    if length != record_place(packet.size, header.records) {
         return Err(PacketFault::Length(length));
     }
-    read_records(octets, &header, size)?;
-    Ok(Packet {
-        header,
-        size: size as u8,
-        octets,
-    })
+    packet.read_records()?;
+    Ok(packet)
 }
 
 impl<'a> Packet<'a> {
+    // Reads the front of record i, and answers the least block number of the next good one.
+    fn read_record(&self, i: u8, least: u8) -> Result<u8, PacketFault>
+        requires there { i < self.now.header.records }
+        requires room { record_place self.now.size i + 2 < length self.now.octets.now }
+        ensures { result ≡ record_of self.now.header self.now.octets.now i least (record_place self.now.size i) }
+    {
+        let Packet { header, octets, .. } = *self;
+        let place = record_place(self.size, i);
+        match Quality::try_from(octets[place + 2]) {
+            Ok(Quality::Good) => {}
+            Ok(Quality::Bad) => return Ok(least),
+            Err(_) => return Err(PacketFault::Field(place + 2)),
+        }
+        let block = octets[place];
+        let fits = if header.selective {
+            block >= least && block < 16
+        } else {
+            block == i
+        };
+        if !fits {
+            return Err(PacketFault::Field(place));
+        }
+        if octets[place + 1] != header.records - 1 - i {
+            return Err(PacketFault::Field(place + 1));
+        }
+        Ok(block + 1)
+    }
+
+    fn read_records(&self) -> Result<u8, PacketFault>
+        requires whole { length self.now.octets.now ≡ packet_length self.now.size self.now.header.records }
+        ensures { result ≡ records_from self.now.size self.now.header self.now.octets.now self.now.header.records 0 0 }
+    {
+        let mut least = 0;
+        // By number, since a record's number is itself tested.
+        for i in 0..self.header.records {
+            least = self.read_record(i, least)?;
+        }
+        Ok(least)
+    }
+
     // The block of record i, or none where the record is bad or not there.
     pub fn block(&self, i: usize) -> Option<Block<'a>>
         ensures { block_in result ≡ block_at self.now.size self.now.header self.now.octets.now i }
@@ -120,11 +113,10 @@ impl<'a> Packet<'a> {
         if i >= usize::from(self.header.records) {
             return None;
         }
-        let size = usize::from(self.size);
-        let place = HEADER_OCTETS + i * (size + RECORD_OCTETS);
+        let place = record_place(self.size, i as u8);
+        let end = place + RECORD_OCTETS + usize::from(self.size);
         let octets = self.octets;
-        let [number, _, quality, block @ ..] = octets.get(place..place + RECORD_OCTETS + size)?
-        else {
+        let [number, _, quality, block @ ..] = octets.get(place..end)? else {
             return None;
         };
         if *quality != u8::from(Quality::Good) {

@@ -2,12 +2,31 @@
 ghost use Rattle.std.specs.Prelude.{◌≡◌};
 ghost use Rattle.packet.specs.Layout.{kind_number, quality_number};
 ghost use Rattle.packet.specs.Numbered.{Numbered};
+ghost use Rattle.packet.specs.Reading.{first_of};
+ghost use Rattle.packet.specs.Routes.{route_tests};
+
+use fault::EndFault;
 
 // Who sends and who is meant.
 #[derive(Clone, Copy, PartialEq, Eq, Debug)]
 pub struct Route {
     pub source: u16,
     pub destination: u16,
+}
+
+impl Route {
+    // Whether what came by a route is from the peer of the end whose own route this is, and for that end.
+    pub fn admit(self, came: Route) -> Result<(), EndFault>
+        ensures { result ≡ first_of (route_tests self came) tt }
+    {
+        if came.source != self.destination {
+            return Err(EndFault::Address(1));
+        }
+        if came.destination != self.source {
+            return Err(EndFault::Address(3));
+        }
+        Ok(())
+    }
 }
 
 // A set of blocks of a fragment: 2^j stands for block j.

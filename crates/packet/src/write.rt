@@ -1,5 +1,5 @@
 // Writing packets into a lent buffer, straight from the lent message.
-ghost use Rattle.std.specs.Prelude.{◌≡◌, ℕ, ◌+◌, ◌*◌, ◌<◌, ◌≤◌, List, length};
+ghost use Rattle.std.specs.Prelude.{◌≡◌, ℕ, ◌+◌, ◌*◌, ◌^◌, ◌<◌, ◌≤◌, List, length};
 ghost use Rattle.fragment.specs.Cutting.{piece_of};
 ghost use Rattle.packet.specs.Octets.{over};
 ghost use Rattle.packet.specs.Blocks.{carried};
@@ -7,6 +7,7 @@ ghost use Rattle.packet.specs.Images.{block_of};
 ghost use Rattle.packet.specs.Sealing.{image_in};
 ghost use Rattle.packet.specs.ReadBack.{ReadsAsWritten};
 ghost use Rattle.packet.specs.Refusals.{WriteRefusals};
+ghost use Rattle.packet.specs.Reading.{record_place};
 ghost use Rattle.packet.specs.Layout.{header_octets, record_octets, records_octets, packet_length, written, written_of};
 
 use crate::front::{Flags, Front};
@@ -15,7 +16,7 @@ use crate::octets::put;
 use crate::values::{Blocks, Header, Kind, Quality, Route};
 use check32::Check;
 use fault::{EndFault, PacketFault};
-use fragment::carrier::Carrier;
+use fragment::carrier::{Carrier, DataCall, MOST_BLOCKS};
 use fragment::piece::Fragment;
 
 // Octets before a packet's records, and those of a response.
@@ -23,6 +24,17 @@ pub const HEADER_OCTETS: usize = 10;
 
 // Octets of a record before its block.
 pub const RECORD_OCTETS: usize = 3;
+
+// Octets of the longest packet of any carrier: as many records as a fragment has blocks, with the longest blocks.
+pub const LONGEST_PACKET: usize = HEADER_OCTETS + MOST_BLOCKS * (DataCall::BLOCK + RECORD_OCTETS);
+
+// Where record i of a packet with blocks of this size begins, and so the length of a packet with i records.
+pub fn record_place(size: u8, i: u8) -> usize
+    ensures value { result ≡ record_place size i }
+    ensures bound { result < 2 ^ 17 }
+{
+    HEADER_OCTETS + usize::from(i) * (usize::from(size) + RECORD_OCTETS)
+}
 
 impl Header {
     fn octets(self) -> [u8; 10]
@@ -106,7 +118,7 @@ pub fn write_packet<C: Carrier, K: Check>(
     }
     let n = fragment.blocks as u8;
     let count = blocks.count(n);
-    let length = HEADER_OCTETS + usize::from(count) * (fragment.block + RECORD_OCTETS);
+    let length = record_place(fragment.block as u8, count);
     if packet.len() < length {
         return Err(PacketFault::Buffer.into());
     }

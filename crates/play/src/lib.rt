@@ -28,7 +28,7 @@ use tell::print::{Line, push_line};
 fn tell_drill(heap: Global, script: &Script) -> Result<Vec<u8>, AllocError>
     ensures { IfOk result (λ text. text.items ≡ told_of (terms_of script.now.head.carrier) (number_by script.now.head.check) (asked_by script.now)) }
 {
-    // A match, since each arm is an instance of a generic function, which no closure can be.
+    // A match, since types are chosen here: a table of functions would list the same four.
     match (script.head.carrier, script.head.check) {
         (CarrierName::Data, CheckName::Polynomial) => play::<DataCall, Polynomial>(heap, script),
         (CarrierName::Data, CheckName::Sum) => play::<DataCall, Sum>(heap, script),

@@ -48,7 +48,8 @@ pub(crate) fn play<C: Carrier, K: Check>(
             stage.retire();
             Ok(scene.text)
         }
-        Err(Short { stage, error }) => {
+        Err(short) => {
+            let Short { stage, error } = short;
             stage.retire();
             Err(error)
         }

@@ -1,10 +1,12 @@
 -- When a selective packet fits the fragment that is being collected.
-use Rattle.std.proofs.Common.{◌≡◌, ℕ, zero, suc, ◌+◌, ◌<◌, ◌≤◌, Bool, true, false, cond, ◌&&◌, eqb, ◌⊎◌, ◌↔◌, List, Some, None, Ok, Option, refl, ap, ◌∙◌, subst, inl, inr, arith, rules, tests}
-use Rattle.std.specs.Option.{MatchOption, option_map}
+use Rattle.std.proofs.Common.{◌≡◌, ℕ, zero, suc, ◌+◌, ◌<◌, ◌≤◌, Bool, true, cond, ◌&&◌, eqb, ◌⊎◌, ◌↔◌, List, Some, None, Ok, Option, refl, sym, ap, ◌∙◌, subst, inl, inr, arith, rules, tests}
+use Rattle.std.specs.List.{position_from}
+use Rattle.std.specs.Option.{option_map}
 use Rattle.std.proofs.lemmas.Bool.{cases_Bool, cases_order, both_ways, le-leb, leb-true, cond-true, cond-false}
 use Rattle.fragment.specs.Carriers.{Terms}
 use Rattle.packet.specs.declared.values.Header.{Header}
 use Rattle.packet.specs.Reading.{Block, block_at, record_place, read_of}
+use Rattle.packet.specs.Records.{records_between}
 use Rattle.packet.proofs.Refusals.{else-false}
 use Rattle.receiver.specs.declared.state.Gathering.{Gathering}
 use Rattle.receiver.specs.declared.state.Phase.{Phase}
@@ -37,21 +39,13 @@ module _ (size : ℕ) (h : Header) (xs : List ℕ) (n : ℕ) where
             ])
       ]
 
-  -- What a search over the records found is where the first such record stands.
-  pub first-past : (r : Option ℕ) (k : ℕ) → k ≡ h.records
-      → MatchOption r ((j : ℕ) → 0 ≤ j → j < k → is_past n (block_at size h xs j) ≡ false)
-      (λ i. (0 ≤ i) × (i < k) × Past i × ((j : ℕ) → 0 ≤ j → j < i → is_past n (block_at size h xs j) ≡ false))
-      → past_from size h xs n h.records 0 ≡ option_map (record_place size) r
-  first-past None k e none =
-      elim (past-found h.records 0) [ inl f ↦ absurd (both_ways _ (none f.0 (omega arith) (omega (arith, f.2))) f.3) | inr f ↦ f.1 ]
-  first-past (Some i) k e (low, there, here, before) =
-      elim (past-found h.records 0) [
-        | inl f ↦
-            elim (cases_order f.0 i) [
-              | inl q ↦ f.5 ∙ ap (λ j. Some (record_place size j)) q
-              | inr o ↦ elim o [ inl l ↦ absurd (both_ways _ (before f.0 (omega arith) l) f.3) | inr l ↦ absurd (f.4 i (omega arith) l here) ]
-            ]
-        | inr f ↦ absurd (f.0 i (omega arith) (omega arith) here)
+  -- It is where a search over the records finds one.
+  pub past-position : (k i : ℕ) → option_map (record_place size) (position_from (is_past n) i (records_between (record { header = h; size = size; octets = xs }) i k)) ≡ past_from size h xs n k i
+  past-position zero i = refl
+  past-position (suc k) i =
+      elim (cases_Bool (is_past n (block_at size h xs i))) [
+        | inl e ↦ ap (option_map (record_place size)) (cond-true _ _ _ e) ∙ sym (cond-true _ _ _ e)
+        | inr e ↦ ap (option_map (record_place size)) (cond-false _ _ _ e) ∙ past-position k (i + 1) ∙ sym (cond-false _ _ _ e)
       ]
 
 module _ (t : Terms) (xs : List ℕ) (h : Header) (read : read_of t xs ≡ Ok h) (n : ℕ) where

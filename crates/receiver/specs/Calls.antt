@@ -1,13 +1,14 @@
 -- What the receiver's calls answer and leave.
-use Rattle.std.specs.Prelude.{ℕ, ◌+◌, Bool, cond, ◌&&◌, List, [], ◌∷◌, length, take, drop, Some, None, Ok, Err, Option, Result, ◌==◌, nat_le}
+use Rattle.std.specs.Prelude.{ℕ, ◌+◌, cond, ◌&&◌, List, [], length, take, drop, Some, None, Ok, Err, Option, Result, ◌==◌, nat_le}
 use Rattle.fault.specs.declared.PacketFault.{PacketFault}
 use Rattle.fault.specs.declared.PacketFault.TheVariants.{Buffer}
 use Rattle.fault.specs.declared.EndFault.{EndFault}
-use Rattle.fault.specs.declared.EndFault.TheVariants.{Packet, Address, Store, Unfit}
+use Rattle.fault.specs.declared.EndFault.TheVariants.{Packet, Store, Unfit}
 use Rattle.fragment.specs.Carriers.{Terms}
 use Rattle.packet.specs.declared.values.Header.{Header}
 use Rattle.packet.specs.declared.values.Route.{Route}
 use Rattle.packet.specs.Octets.{over}
+use Rattle.packet.specs.Routes.{route_tests}
 use Rattle.packet.specs.Reading.{read_of, and_then, first_of}
 use Rattle.packet.specs.Responses.{response_octets}
 use Rattle.packet.specs.Views.{Seen}
@@ -45,13 +46,9 @@ abbrev pub unless_unfit : {A : Type 0} → Option ℕ → A → Result A EndFaul
 unless_unfit None a = Ok a
 unless_unfit (Some place) a = Err (Unfit place)
 
--- The packet comes from the peer and is meant for this receiver, whose route is that of its responses.
-abbrev pub route_tests : Route → Header → List (Bool × EndFault)
-route_tests route h = ((h.route.source == route.destination), Address 1) ∷ (((h.route.destination == route.source), Address 3) ∷ [])
-
--- What is known of a packet once it was read.
+-- What is known of a packet once it was read. It comes from the peer and is for this receiver, whose route is that of its responses.
 abbrev pub placed_of : Terms → Route → Phase → List ℕ → Header → Result Header EndFault
-placed_of t route phase xs h = and_then (first_of (route_tests route h) h) (λ _. unless_unfit (unfit_of t.block phase xs h) h)
+placed_of t route phase xs h = and_then (first_of (route_tests route h.route) h) (λ _. unless_unfit (unfit_of t.block phase xs h) h)
 
 -- Every refusal of a packet, in order, with so much room for the response.
 abbrev pub admit_of : Terms → Route → Phase → List ℕ → ℕ → Result Header EndFault

@@ -18,8 +18,7 @@ use packet::write::{HEADER_OCTETS, RECORD_OCTETS};
 fn past(packet: &Packet, blocks: u8) -> Option<usize>
     ensures { result ≡ past_from packet.now.size packet.now.header packet.now.octets.now blocks packet.now.header.records 0 }
 {
-    let is_past = |i: &usize| packet.block(*i).is_some_and(|block| block.number >= blocks);
-    let i = (0..usize::from(packet.header.records)).find(is_past)?;
+    let i = packet.records().position(|record| record.is_some_and(|block| block.number >= blocks))?;
     Some(HEADER_OCTETS + i * (usize::from(packet.size) + RECORD_OCTETS))
 }
 
@@ -54,12 +53,7 @@ pub(crate) fn admit<'a, C: Carrier>(
         return Err(PacketFault::Buffer.into());
     }
     let packet = read_packet::<C>(octets)?;
-    if packet.header.route.source != route.destination {
-        return Err(EndFault::Address(1));
-    }
-    if packet.header.route.destination != route.source {
-        return Err(EndFault::Address(3));
-    }
+    route.admit(packet.header.route)?;
     match unfit(phase, &packet) {
         Some(place) => Err(EndFault::Unfit(place)),
         None => Ok(packet),

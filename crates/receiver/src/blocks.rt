@@ -49,9 +49,8 @@ impl BlockStore {
         requires { Storable packet.now.size packet.now.header packet.now.octets.now }
         ensures { self.new ≡ filled_by packet.now.size packet.now.header packet.now.octets.now self.old }
     {
-        // By number: over an iterator of the records the proof was as long.
-        for i in 0..usize::from(packet.header.records) {
-            if let Some(block) = packet.block(i) {
+        for record in packet.records() {
+            if let Some(block) = record {
                 self.put(usize::from(block.number), block.octets);
             }
         }

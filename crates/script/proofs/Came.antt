@@ -4,7 +4,7 @@ use Rattle.std.proofs.lemmas.Option.{same_Some, none-some}
 use Rattle.std.proofs.lemmas.Fmt.{decimal_digit, decimal_step}
 use Rattle.std.proofs.lemmas.Slice.Eq.{bytes_eq-Decides}
 use Rattle.std.proofs.lemmas.Bool.{and_parts, eqb-true, eqb-false, leb-true}
-use Rattle.script.specs.Words.{read_on, if_there, past, optional, is_digit, figure_from, figure_of, up_to, figure_to, next_figure, closed, is_end}
+use Rattle.script.specs.Words.{read_on, if_there, found, past, after, optional, is_digit, figure_from, figure_of, up_to, figure_to, next_figure, closed, is_end}
 use Rattle.script.specs.Written.{line_end, item_before, word_before}
 
 -- Steps of a reading
@@ -45,6 +45,14 @@ optional-of word text (Some rest) e = past-only word text rest e
 
 pub optional-only : (word text : List ℕ) → text ≡ word_before (optional (past word text) text).0 word (optional (past word text) text).1
 optional-only word text = optional-of word text (past word text) refl
+
+pub after-only : {X : Type 0} (word : List ℕ) (gives : List ℕ → Option (X × List ℕ)) (text : List ℕ) (p : Option X × List ℕ) → after word gives text ≡ Some p
+    → ((None, text) ≡ p) ⊎ ((rest : List ℕ) × (q : X × List ℕ) × (text ≡ word ++ rest) × (gives rest ≡ Some q) × ((Some q.0, q.1) ≡ p))
+after-only word gives text p e =
+    elim (if-there (past word text) (None, text) (λ rest. read_on (gives rest) found) p e) [
+      | inl n ↦ inl n.1
+      | inr s ↦ (let a = read-on (gives s.0) found p s.2 in inr (s.0, a.0, past-only word text s.0 s.1, a.1, same_Some _ _ a.2))
+    ]
 
 pub closed-only : {X : Type 0} (p q : X × List ℕ) → closed p ≡ Some q → (p.0 ≡ q.0) × (p.1 ≡ codes ")" ++ q.1)
 closed-only p q e =

@@ -1,5 +1,5 @@
 -- A turn is read as it was written.
-use Rattle.std.proofs.Common.{◌≡◌, ℕ, zero, suc, ◌+◌, ◌*◌, ◌/◌, ◌%◌, ◌^◌, ◌<◌, ◌≤◌, Bool, true, false, eqb, ltb, leb, List, ◌++◌, get_or, Some, None, codes, Option, sym, refl, ap, ◌∙◌, add_comm, arith}
+use Rattle.std.proofs.Common.{◌≡◌, ℕ, zero, suc, ◌+◌, ◌*◌, ◌/◌, ◌%◌, ◌^◌, ◌<◌, ◌≤◌, Bool, true, false, eqb, ltb, leb, List, ◌++◌, get_or, Some, None, codes, decimal, Option, sym, refl, ap, ◌∙◌, add_comm, arith}
 use Rattle.std.proofs.lemmas.Nat.{mod-pow-add}
 use Rattle.std.proofs.lemmas.Bool.{cond-false, cond_both, eqb-true, eqb-false, ne_eqb, leb-true, ltb-true, and_parts}
 use Rattle.air.specs.declared.fate.Alteration.{Alteration}
@@ -7,8 +7,8 @@ use Rattle.air.specs.declared.fate.Hearing.{Hearing}
 use Rattle.air.specs.declared.few.UpToThree.{UpToThree}
 use Rattle.air.specs.declared.few.UpToThree.TheVariants.{Empty, One, Two, Three}
 use Rattle.air.specs.declared.fate.Fate.{Fate}
-use Rattle.script.specs.Words.{read_on, if_there, past, optional, is_digit, next_figure}
-use Rattle.script.specs.Turns.{records_from, some_bad, bad_of, masked, altered, alteration_of, replied, hearing_of, third, second, first, hearings_of, ended, waited, turn_of}
+use Rattle.script.specs.Words.{read_on, if_there, found, past, optional, is_digit, next_figure}
+use Rattle.script.specs.Turns.{records_from, some_bad, bad_of, masked, altered, alteration_of, replied, heard, hearing_of, third, second, first, hearings_of, ended, waited, turn_of}
 use Rattle.script.specs.Written.{line_end, item_before, word_before, is_bad, records_before, bad_before, alteration_before, hearing_before, hearings_before, turn_line, alteration_fits, hearing_fits, hearings_fit}
 use Rattle.script.proofs.Figures.{figure-to-back, next-back}
 use Rattle.script.proofs.Records.{record-more, records-end, records-all}
@@ -84,7 +84,7 @@ bad-back bad rest h none =
 -- Alterations
 
 altered-back : (a : Alteration) (rest : List ℕ) → a.«record» ≤ 15 → a.place ≤ 19 → 1 ≤ a.mask → a.mask ≤ 255
-    → alteration_of (alteration_before (Some a) rest) ≡ Some (Some a, rest)
+    → altered (decimal a.«record» ++ item_before a.place (item_before a.mask (codes ")" ++ rest))) ≡ Some (a, rest)
 altered-back a rest f p low high =
     let placed = item_before a.place (item_before a.mask (codes ")" ++ rest)) in
     ap (λ o. read_on o (λ numbered. read_on (next_figure 19 numbered.1) (λ place. read_on (next_figure 255 place.1) (masked numbered.0 place.0))))
@@ -92,16 +92,16 @@ altered-back a rest f p low high =
     ∙ ap (λ o. read_on o (λ place. read_on (next_figure 255 place.1) (masked a.«record» place.0)))
     (next-back 19 a.place (item_before a.mask (codes ")" ++ rest)) p (omega arith) refl)
     ∙ ap (λ o. read_on o (masked a.«record» a.place)) (next-back 255 a.mask (codes ")" ++ rest) high (omega arith) refl)
-    ∙ cond-false (eqb a.mask 0) None (Some (Some a, rest)) (ne_eqb a.mask 0 (λ e. omega arith))
+    ∙ cond-false (eqb a.mask 0) None (Some (a, rest)) (ne_eqb a.mask 0 (λ e. omega arith))
 
 alteration-back : (a : Option Alteration) (rest : List ℕ) → alteration_fits a ≡ true → None ≡ past (codes " (alter ") rest
     → alteration_of (alteration_before a rest) ≡ Some (a, rest)
-alteration-back None rest fits none = ap (λ o. if_there o (None, rest) altered) (sym none)
+alteration-back None rest fits none = ap (λ o. if_there o (None, rest) (λ more. read_on (altered more) found)) (sym none)
 alteration-back (Some a) rest fits none =
     let one = and_parts (leb a.«record» 15) _ fits in
     let two = and_parts (leb a.place 19) _ one.1 in
     let three = and_parts (leb 1 a.mask) _ two.1 in
-    altered-back a rest (leb-true _ 15 one.0) (leb-true _ 19 two.0) (leb-true 1 _ three.0) (leb-true _ 255 three.1)
+    ap (λ o. read_on o found) (altered-back a rest (leb-true _ 15 one.0) (leb-true _ 19 two.0) (leb-true 1 _ three.0) (leb-true _ 255 three.1))
 
 -- Hearings
 
@@ -118,12 +118,13 @@ no-alteration false rest = refl
 
 reply-back : (bad : ℕ) (a : Option Alteration) (reply : Bool) (rest : List ℕ)
     → replied bad a (optional (past (codes " (reply)") (word_before reply (codes " (reply)") (codes ")" ++ rest))) (word_before reply (codes " (reply)") (codes ")" ++ rest)))
-    ≡ Some (Some (record { bad = bad; alteration = a; reply = reply }), rest)
+    ≡ Some (record { bad = bad; alteration = a; reply = reply }, rest)
 reply-back bad a true rest = refl
 reply-back bad a false rest = refl
 
-hearing-back : (h : Hearing) (rest : List ℕ) → hearing_fits h ≡ true → hearing_of (hearing_before h rest) ≡ Some (Some h, rest)
-hearing-back h rest fits =
+heard-back : (h : Hearing) (rest : List ℕ) → hearing_fits h ≡ true
+    → heard (bad_before h.bad (alteration_before h.alteration (word_before h.reply (codes " (reply)") (codes ")" ++ rest)))) ≡ Some (h, rest)
+heard-back h rest fits =
     let parts = and_parts (ltb h.bad 65536) (alteration_fits h.alteration) fits in
     let end = word_before h.reply (codes " (reply)") (codes ")" ++ rest) in
     ap (λ o. read_on o (λ bad. read_on (alteration_of bad.1) (λ alteration.
@@ -132,6 +133,9 @@ hearing-back h rest fits =
     ∙ ap (λ o. read_on o (λ alteration. replied h.bad alteration.0 (optional (past (codes " (reply)") alteration.1) alteration.1)))
     (alteration-back h.alteration end parts.1 (no-alteration h.reply rest))
     ∙ reply-back h.bad h.alteration h.reply rest
+
+hearing-back : (h : Hearing) (rest : List ℕ) → hearing_fits h ≡ true → hearing_of (hearing_before h rest) ≡ Some (Some h, rest)
+hearing-back h rest fits = ap (λ o. read_on o found) (heard-back h rest fits)
 
 hearings-back : (hs : UpToThree Hearing) → hearings_fit hs ≡ true → hearings_of (hearings_before hs line_end) ≡ Some (hs, line_end)
 hearings-back Empty fits = refl

@@ -11,7 +11,7 @@ use Rattle.air.specs.declared.few.UpToThree.{UpToThree}
 use Rattle.script.specs.Words.{read_on, past, optional, figure_to, next_figure, closed, is_end}
 use Rattle.script.specs.Turns.{ascending, records_from, some_bad, bad_of, masked, altered, alteration_of, replied, heard, hearing_of, third, second, first, hearings_of, ended, waited, turn_of}
 use Rattle.script.specs.Written.{item_before, word_before, is_bad, records_before, bad_before, alteration_before, hearing_before, hearings_before, turn_line, alteration_fits, hearing_fits, hearings_fit}
-use Rattle.script.proofs.Came.{read-on, if-there, kept-only, not_none, past-only, optional-only, closed-only, end-only, figure-to-only, next-only}
+use Rattle.script.proofs.Came.{read-on, if-there, kept-only, not_none, past-only, optional-only, after-only, closed-only, end-only, figure-to-only, next-only}
 use Rattle.script.proofs.Records.{pow_mono, record-room}
 use Rattle.script.proofs.TurnsBack.{low_bits}
 
@@ -155,34 +155,34 @@ alteration-fits a f p some high =
     let ne = eqb-false a.mask 0 some in
     and_from _ _ (le-leb a.«record» 15 f) (and_from _ _ (le-leb a.place 19 p) (and_from _ _ (le-leb 1 a.mask (omega arith)) (le-leb a.mask 255 high)))
 
-mask-only : (numbered place : ℕ) (mask : ℕ × List ℕ) (p : Option Alteration × List ℕ) → numbered ≤ 15 → place ≤ 19 → mask.0 ≤ 255
-    → masked numbered place mask ≡ Some p → AlterationIs (codes " (alter" ++ item_before numbered (item_before place (item_before mask.0 mask.1))) p
+mask-only : (numbered place : ℕ) (mask : ℕ × List ℕ) (p : Alteration × List ℕ) → numbered ≤ 15 → place ≤ 19 → mask.0 ≤ 255
+    → masked numbered place mask ≡ Some p → AlterationIs (codes " (alter" ++ item_before numbered (item_before place (item_before mask.0 mask.1))) (Some p.0, p.1)
 mask-only numbered place mask p f g h e =
     let a : Alteration = record { «record» = numbered; place = place; mask = mask.0 } in
-    let k = not_none (eqb mask.0 0) (closed (Some a, mask.1)) p e in
-    let d = closed-only (Some a, mask.1) p k.1 in (
-      ap (λ l. codes " (alter" ++ item_before numbered (item_before place (item_before mask.0 l))) d.1 ∙ ap (λ o. alteration_before o p.1) d.0,
-      subst (λ (o : Option Alteration). alteration_fits o ≡ true) d.0 (alteration-fits a f g k.0 h),
+    let k = not_none (eqb mask.0 0) (closed (a, mask.1)) p e in
+    let d = closed-only (a, mask.1) p k.1 in (
+      ap (λ l. codes " (alter" ++ item_before numbered (item_before place (item_before mask.0 l))) d.1 ∙ ap (λ o. alteration_before (Some o) p.1) d.0,
+      subst (λ (o : Alteration). alteration_fits (Some o) ≡ true) d.0 (alteration-fits a f g k.0 h),
     )
 
-from-mask : (numbered place : ℕ) (text : List ℕ) (p : Option Alteration × List ℕ) → numbered ≤ 15 → place ≤ 19
-    → read_on (next_figure 255 text) (masked numbered place) ≡ Some p → AlterationIs (codes " (alter" ++ item_before numbered (item_before place text)) p
+from-mask : (numbered place : ℕ) (text : List ℕ) (p : Alteration × List ℕ) → numbered ≤ 15 → place ≤ 19
+    → read_on (next_figure 255 text) (masked numbered place) ≡ Some p → AlterationIs (codes " (alter" ++ item_before numbered (item_before place text)) (Some p.0, p.1)
 from-mask numbered place text p f g e =
     let a = read-on (next_figure 255 text) (masked numbered place) p e in
     let h = next-only 255 text a.0 a.1 in
     let m = mask-only numbered place a.0 p f g h.1 a.2 in
     (ap (λ l. codes " (alter" ++ item_before numbered (item_before place l)) h.0 ∙ m.0, m.1)
 
-from_place : (numbered : ℕ) (text : List ℕ) (p : Option Alteration × List ℕ) → numbered ≤ 15
+from_place : (numbered : ℕ) (text : List ℕ) (p : Alteration × List ℕ) → numbered ≤ 15
     → read_on (next_figure 19 text) (λ place. read_on (next_figure 255 place.1) (masked numbered place.0)) ≡ Some p
-    → AlterationIs (codes " (alter" ++ item_before numbered text) p
+    → AlterationIs (codes " (alter" ++ item_before numbered text) (Some p.0, p.1)
 from_place numbered text p f e =
     let a = read-on (next_figure 19 text) (λ place. read_on (next_figure 255 place.1) (masked numbered place.0)) p e in
     let g = next-only 19 text a.0 a.1 in
     let m = from-mask numbered a.0.0 a.0.1 p f g.1 a.2 in
     (ap (λ l. codes " (alter" ++ item_before numbered l) g.0 ∙ m.0, m.1)
 
-altered-only : (rest : List ℕ) (p : Option Alteration × List ℕ) → altered rest ≡ Some p → AlterationIs (codes " (alter " ++ rest) p
+altered-only : (rest : List ℕ) (p : Alteration × List ℕ) → altered rest ≡ Some p → AlterationIs (codes " (alter " ++ rest) (Some p.0, p.1)
 altered-only rest p e =
     let a = read-on (figure_to 15 rest) (λ numbered. read_on (next_figure 19 numbered.1) (λ place. read_on (next_figure 255 place.1) (masked numbered.0 place.0))) p e in
     let f = figure-to-only 15 rest a.0 a.1 in
@@ -191,10 +191,12 @@ altered-only rest p e =
 
 alteration-only : (text : List ℕ) (p : Option Alteration × List ℕ) → alteration_of text ≡ Some p → AlterationIs text p
 alteration-only text p e =
-    elim (if-there (past (codes " (alter ") text) (None, text) altered p e) [
-      | inl n ↦ (let none : AlterationIs text (None, text) = (refl, refl) in subst (λ (q : Option Alteration × List ℕ). AlterationIs text q) n.1 none)
+    elim (after-only (codes " (alter ") altered text p e) [
+      | inl n ↦ (let none : AlterationIs text (None, text) = (refl, refl) in subst (λ (q : Option Alteration × List ℕ). AlterationIs text q) n none)
       | inr s ↦
-          (let m = altered-only s.0 p s.2 in (past-only (codes " (alter ") text s.0 s.1 ∙ m.0, m.1))
+          (let m = altered-only s.0 s.1 s.3 in
+          let some : AlterationIs text (Some s.1.0, s.1.1) = (s.2 ∙ m.0, m.1) in
+          subst (λ (q : Option Alteration × List ℕ). AlterationIs text q) s.4 some)
     ]
 
 -- Hearings
@@ -210,7 +212,7 @@ maybe_fits (Some h) = hearing_fits h
 abbrev HearingIs : List ℕ → Option Hearing × List ℕ → Type 0
 HearingIs text p = (text ≡ maybe_before p.0 p.1) × (maybe_fits p.0 ≡ true)
 
-heard-only : (text rest : List ℕ) (p : Option Hearing × List ℕ) → text ≡ codes " (heard" ++ rest → heard rest ≡ Some p → HearingIs text p
+heard-only : (text rest : List ℕ) (p : Hearing × List ℕ) → text ≡ codes " (heard" ++ rest → heard rest ≡ Some p → HearingIs text (Some p.0, p.1)
 heard-only text rest p here e =
     let a = read-on (bad_of rest) (λ bad. read_on (alteration_of bad.1) (λ alteration.
     replied bad.0 alteration.0 (optional (past (codes " (reply)") alteration.1) alteration.1))) p e in
@@ -225,15 +227,15 @@ heard-only text rest p here e =
       here ∙ ap (λ l. codes " (heard" ++ l) f.0 ∙ ap (λ l. codes " (heard" ++ bad_before a.0.0 l) g.0
           ∙ ap (λ l. codes " (heard" ++ bad_before a.0.0 (alteration_before b.0.0 l)) h
           ∙ ap (λ l. codes " (heard" ++ bad_before a.0.0 (alteration_before b.0.0 (word_before o.0 (codes " (reply)") l))) d.1
-          ∙ ap (λ x. maybe_before x p.1) d.0,
-      subst (λ (x : Option Hearing). maybe_fits x ≡ true) d.0 fits,
+          ∙ ap (λ x. hearing_before x p.1) d.0,
+      subst (λ (x : Hearing). hearing_fits x ≡ true) d.0 fits,
     )
 
 hearing-only : (text : List ℕ) (p : Option Hearing × List ℕ) → hearing_of text ≡ Some p → HearingIs text p
 hearing-only text p e =
-    elim (if-there (past (codes " (heard") text) (None, text) heard p e) [
-      | inl n ↦ (let none : HearingIs text (None, text) = (refl, refl) in subst (λ (q : Option Hearing × List ℕ). HearingIs text q) n.1 none)
-      | inr s ↦ heard-only text s.0 p (past-only (codes " (heard") text s.0 s.1) s.2
+    elim (after-only (codes " (heard") heard text p e) [
+      | inl n ↦ (let none : HearingIs text (None, text) = (refl, refl) in subst (λ (q : Option Hearing × List ℕ). HearingIs text q) n none)
+      | inr s ↦ subst (λ (q : Option Hearing × List ℕ). HearingIs text q) s.4 (heard-only text s.0 s.1 s.2 s.3)
     ]
 
 abbrev HearingsAre : List ℕ → UpToThree Hearing × List ℕ → Type 0

@@ -5,7 +5,7 @@ use Rattle.air.specs.declared.fate.Hearing.{Hearing}
 use Rattle.air.specs.declared.few.UpToThree.{UpToThree}
 use Rattle.air.specs.declared.few.UpToThree.TheVariants.{Empty, One, Two, Three}
 use Rattle.air.specs.declared.fate.Fate.{Fate}
-use Rattle.script.specs.Words.{read_on, if_there, past, optional, figure_to, next_figure, closed, is_end}
+use Rattle.script.specs.Words.{read_on, if_there, past, after, optional, figure_to, next_figure, closed, is_end}
 
 -- A record of at least `least`.
 abbrev pub ascending : ℕ → ℕ × List ℕ → Option (ℕ × List ℕ)
@@ -26,28 +26,28 @@ abbrev pub bad_of : List ℕ → Option (ℕ × List ℕ)
 bad_of text = if_there (past (codes " (bad") text) (0, text) (λ rest. read_on (records_from 16 0 0 rest) some_bad)
 
 -- A mask alters something.
-abbrev pub masked : ℕ → ℕ → ℕ × List ℕ → Option (Option Alteration × List ℕ)
+abbrev pub masked : ℕ → ℕ → ℕ × List ℕ → Option (Alteration × List ℕ)
 masked numbered place mask =
-    cond (mask.0 == 0) None (closed (Some (record { «record» = numbered; place = place; mask = mask.0 }), mask.1))
+    cond (mask.0 == 0) None (closed (record { «record» = numbered; place = place; mask = mask.0 }, mask.1))
 
-abbrev pub altered : List ℕ → Option (Option Alteration × List ℕ)
+abbrev pub altered : List ℕ → Option (Alteration × List ℕ)
 altered text =
     read_on (figure_to 15 text) (λ numbered. read_on (next_figure 19 numbered.1) (λ place. read_on (next_figure 255 place.1) (masked numbered.0 place.0)))
 
 abbrev pub alteration_of : List ℕ → Option (Option Alteration × List ℕ)
-alteration_of text = if_there (past (codes " (alter ") text) (None, text) altered
+alteration_of text = after (codes " (alter ") altered text
 
-abbrev pub replied : ℕ → Option Alteration → Bool × List ℕ → Option (Option Hearing × List ℕ)
-replied bad alteration reply = closed (Some (record { bad = bad; alteration = alteration; reply = reply.0 }), reply.1)
+abbrev pub replied : ℕ → Option Alteration → Bool × List ℕ → Option (Hearing × List ℕ)
+replied bad alteration reply = closed (record { bad = bad; alteration = alteration; reply = reply.0 }, reply.1)
 
-abbrev pub heard : List ℕ → Option (Option Hearing × List ℕ)
+abbrev pub heard : List ℕ → Option (Hearing × List ℕ)
 heard text =
     read_on (bad_of text) (λ bad. read_on (alteration_of bad.1) (λ alteration.
     replied bad.0 alteration.0 (optional (past (codes " (reply)") alteration.1) alteration.1)))
 
 -- One hearing, if it is there.
 abbrev pub hearing_of : List ℕ → Option (Option Hearing × List ℕ)
-hearing_of text = if_there (past (codes " (heard") text) (None, text) heard
+hearing_of text = after (codes " (heard") heard text
 
 -- Up to three hearings.
 

@@ -18,11 +18,19 @@ abbrev pub if_there : {X : Type 0} → Option (List ℕ) → X → (List ℕ →
 if_there None x next = Some x
 if_there (Some rest) x next = next rest
 
+-- What was read, where it might not be there.
+abbrev pub found : {X : Type 0} → X × List ℕ → Option (Option X × List ℕ)
+found p = Some (Some p.0, p.1)
+
 -- The text behind a word.
 abbrev pub past : List ℕ → List ℕ → Option (List ℕ)
 past [] text = Some text
 past (c ∷ word) [] = None
 past (c ∷ word) (x ∷ text) = cond (x == c) (past word text) None
+
+-- What is read behind a word, if the word is there.
+abbrev pub after : {X : Type 0} → List ℕ → (List ℕ → Option (X × List ℕ)) → List ℕ → Option (Option X × List ℕ)
+after word gives text = if_there (past word text) (None, text) (λ rest. read_on (gives rest) found)
 
 -- Whether a word is there, and the text behind it.
 abbrev pub optional : Option (List ℕ) → List ℕ → Bool × List ℕ

@@ -9,6 +9,7 @@ use crate::words::{is_end, read_figure, read_word};
 use check32::CheckName;
 use fault::EndFault;
 use fragment::name::CarrierName;
+use sender::states::calls::MOST_RETRIES;
 use std::str;
 use std::str::FromStr;
 use tell::faults::{DrillFault, Refused};
@@ -46,11 +47,11 @@ fn read_lone(line: &[u8], word: &[u8]) -> Option<u32>
 fn read_retries(line: &[u8]) -> Result<u8, DrillFault>
     ensures { result ≡ retries_of line.now }
 {
-    match read_lone(line, b"(retries ") {
-        Some(retries @ 0..=15) => Ok(retries as u8),
-        Some(_) => Err(DrillFault::from(EndFault::Retries)),
-        None => Err(DrillFault::Line),
-    }
+    let retries = read_lone(line, b"(retries ").ok_or(DrillFault::Line)?;
+    u8::try_from(retries)
+        .ok()
+        .filter(|retries| *retries <= MOST_RETRIES)
+        .ok_or(DrillFault::from(EndFault::Retries))
 }
 
 // A line that is not in the form that is due.

@@ -18,6 +18,7 @@ fn read_lines(heap: Global, text: &[u8]) -> Result<Script, ScriptError>
     ensures { IfSome (answered result) (λ answer. answer ≡ plan_in (lines_of text.now)) }
 {
     let mut lines = text.split_inclusive(|octet| *octet == b'\n');
+    // Each by itself: of an iterator, what `read_head` promises would speak of its states, and not of four texts.
     let one = lines.next().unwrap_or_default();
     let two = lines.next().unwrap_or_default();
     let three = lines.next().unwrap_or_default();

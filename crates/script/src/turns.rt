@@ -1,11 +1,27 @@
 // The turns of a drill, read.
 ghost use Rattle.std.specs.Prelude.{◌≡◌};
-ghost use Rattle.script.specs.Words.{seen};
+ghost use Rattle.script.specs.Words.{seen, after};
 ghost use Rattle.script.specs.Turns.{records_from, bad_of, altered, alteration_of, heard, hearing_of, hearings_of, turn_of};
 
 use crate::words::{is_end, read_next, read_optional, read_small, read_word};
 use air::fate::{Alteration, Fate, Hearing, Hearings};
 use air::few::UpToThree;
+
+// What stands behind a word, if the word is there.
+fn read_after<'a, T, F: FnOnce(&'a [u8]) -> Option<(T, &'a [u8])>>(
+    text: &'a [u8],
+    word: &[u8],
+    read: F,
+) -> Option<(Option<T>, &'a [u8])>
+    requires { F.IsAlwaysCallable read }
+    ensures { (gives : _) → ((x : _) (r : _) → F.post read x r → seen r ≡ gives x.now) → seen result ≡ after word.now gives text.now }
+{
+    let Some(rest) = read_word(text, word) else {
+        return Some((None, text));
+    };
+    let (value, rest) = read(rest)?;
+    Some((Some(value), rest))
+}
 
 // Bad records, each behind a space and above the one before.
 fn read_records(text: &[u8]) -> Option<(u16, &[u8])>
@@ -46,7 +62,7 @@ fn read_bad(text: &[u8]) -> Option<(u16, &[u8])>
 }
 
 // What is altered.
-fn read_altered(text: &[u8]) -> Option<(Option<Alteration>, &[u8])>
+fn read_altered(text: &[u8]) -> Option<(Alteration, &[u8])>
     ensures { seen result ≡ altered text.now }
 {
     let (record, rest) = read_small(text, 15)?;
@@ -57,11 +73,11 @@ fn read_altered(text: &[u8]) -> Option<(Option<Alteration>, &[u8])>
     }
     let rest = read_word(rest, b")")?;
     Some((
-        Some(Alteration {
+        Alteration {
             record,
             place,
             mask,
-        }),
+        },
         rest,
     ))
 }
@@ -70,14 +86,11 @@ fn read_altered(text: &[u8]) -> Option<(Option<Alteration>, &[u8])>
 fn read_alteration(text: &[u8]) -> Option<(Option<Alteration>, &[u8])>
     ensures { seen result ≡ alteration_of text.now }
 {
-    match read_word(text, b" (alter ") {
-        Some(rest) => read_altered(rest),
-        None => Some((None, text)),
-    }
+    read_after(text, b" (alter ", read_altered)
 }
 
 // What is heard.
-fn read_heard(text: &[u8]) -> Option<(Option<Hearing>, &[u8])>
+fn read_heard(text: &[u8]) -> Option<(Hearing, &[u8])>
     ensures { seen result ≡ heard text.now }
 {
     let (bad, rest) = read_bad(text)?;
@@ -85,23 +98,20 @@ fn read_heard(text: &[u8]) -> Option<(Option<Hearing>, &[u8])>
     let (reply, rest) = read_optional(rest, b" (reply)");
     let rest = read_word(rest, b")")?;
     Some((
-        Some(Hearing {
+        Hearing {
             bad,
             alteration,
             reply,
-        }),
+        },
         rest,
     ))
 }
 
-// One hearing, if it is there. It reads as an alteration does; one function of both would take the reader, with clauses on its calls.
+// One hearing, if it is there.
 fn read_hearing(text: &[u8]) -> Option<(Option<Hearing>, &[u8])>
     ensures { seen result ≡ hearing_of text.now }
 {
-    match read_word(text, b" (heard") {
-        Some(rest) => read_heard(rest),
-        None => Some((None, text)),
-    }
+    read_after(text, b" (heard", read_heard)
 }
 
 // Up to three hearings.

@@ -3,4 +3,3 @@ pub mod Views
 pub mod Runs
 pub mod Laws
 pub mod Words
-pub mod Courses

@@ -1,5 +1,5 @@
 -- What each call of a sender does, on plain values.
-use Rattle.std.specs.Prelude.{ℕ, ◌+◌, ◌-◌, Bool, true, cond, List, [], ◌∷◌, Some, None, Ok, Err, Option, Result, ◌==◌, nat_le, nat_lt}
+use Rattle.std.specs.Prelude.{ℕ, ◌+◌, ◌-◌, Bool, true, cond, List, [], ◌∷◌, ◌++◌, Some, None, Ok, Err, Option, Result, ◌==◌, nat_le, nat_lt}
 use Rattle.fault.specs.declared.PacketFault.{PacketFault}
 use Rattle.fault.specs.declared.PacketFault.TheVariants.{Message}
 use Rattle.fault.specs.declared.EndFault.{EndFault}
@@ -12,6 +12,7 @@ use Rattle.packet.specs.declared.values.Code.{Code}
 use Rattle.packet.specs.declared.values.Code.TheVariants.{Ack, AckSelective, FullRetry, OutOfStep}
 use Rattle.packet.specs.declared.values.Response.{Response}
 use Rattle.packet.specs.Blocks.{askable}
+use Rattle.packet.specs.Routes.{route_tests}
 use Rattle.packet.specs.Layout.{Written, written_of, refused_by}
 use Rattle.packet.specs.Reading.{first_of, and_then}
 use Rattle.packet.specs.Responses.{response_of}
@@ -145,11 +146,10 @@ answerable t n OutOfStep = true
 -- A response is from the peer, to this end, for this fragment, and asks for no other blocks than it has.
 abbrev pub answer_tests : Terms → Base → Session → Response → List (Bool × EndFault)
 answer_tests t b s r =
-    ((r.route.source == b.route.destination), end.Address 1)
-    ∷ (((r.route.destination == b.route.source), end.Address 3)
-    ∷ (((r.number == s.number), end.Number)
+    route_tests b.route r.route
+    ++ (((r.number == s.number), end.Number)
     ∷ ((answerable t (block_count t s) r.code, end.Blocks)
-    ∷ [])))
+    ∷ []))
 
 abbrev pub answer_of : Terms → Base → Session → Response → Result Code EndFault
 answer_of t b s r = first_of (answer_tests t b s r) r.code

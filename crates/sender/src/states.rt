@@ -1,9 +1,9 @@
 // The states of a sender: each call takes one and hands one on.
-ghost use Rattle.std.specs.Prelude.{◌≤◌};
+ghost use Rattle.std.specs.Prelude.{ℕ, ◌+◌, ◌*◌, ◌≤◌};
 
-use crate::values::{Base, Course};
+use crate::values::{Base, Session};
 use fault::EndFault;
-use std::marker::{Model, PhantomData};
+use std::marker::PhantomData;
 
 pub mod calls;
 
@@ -14,10 +14,15 @@ pub struct Ready<C, K> {
     ghost few: { base.limit ≤ 15 },
 }
 
-// In a session, with so many packets put out whose response is awaited. A caller sees its course.
+// In a session, with so many packets put out whose response is awaited.
 pub struct InSession<C, K, const OUT: u8> {
-    course: Course,
+    base: Base,
+    session: Session,
     kind: PhantomData<(C, K)>,
+    ghost few: { base.limit ≤ 15 },
+    ghost tried: { session.used ≤ base.limit },
+    // each fragment so far took at most 16 packets, and the current one as many as its retries, and those that are out
+    ghost counted: { session.packets + 16 * session.number ≤ 1048560 + OUT + session.used },
 }
 
 // In a session, with a packet to put out.
@@ -25,17 +30,6 @@ pub type Sending<C, K> = InSession<C, K, 0>;
 
 // In a session, with a packet put out whose response is awaited.
 pub type Awaiting<C, K> = InSession<C, K, 1>;
-
-impl<C, K, const OUT: u8> Model for InSession<C, K, OUT> {
-    ghost use Rattle.sender.specs.declared.values.Course.{Course};
-    ghost use Rattle.sender.specs.Courses.{InBounds};
-
-    ghost Value = { Course };
-
-    ghost view = { λ s. s.course };
-
-    ghost invariant = { λ s. InBounds OUT s.course };
-}
 
 // A refused call: the caller's value as it was, and why.
 pub struct Refusal<S> {

@@ -98,12 +98,7 @@ impl Course {
     fn answer<C: Carrier>(self, response: Response) -> Result<Code, EndFault>
         ensures { result ≡ answer_of C.Carrier.terms self.base self.session response }
     {
-        if response.route.source != self.base.route.destination {
-            return Err(EndFault::Address(1));
-        }
-        if response.route.destination != self.base.route.source {
-            return Err(EndFault::Address(3));
-        }
+        self.base.route.admit(response.route)?;
         if response.number != self.session.number {
             return Err(EndFault::Number);
         }

@@ -34,9 +34,9 @@ pub struct Session {
 
 // A session under way, and what lasts past it.
 #[derive(Clone, Copy, PartialEq, Eq, Debug)]
-pub struct Course {
-    pub base: Base,
-    pub session: Session,
+pub(crate) struct Course {
+    pub(crate) base: Base,
+    pub(crate) session: Session,
 }
 
 #[derive(Clone, Copy, PartialEq, Eq, Debug)]

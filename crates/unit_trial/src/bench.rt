@@ -2,6 +2,7 @@
 use check32::Check;
 use fragment::carrier::Carrier;
 use hex_digits::{Hex, octets_of};
+use packet::write::LONGEST_PACKET;
 use sender::states::{Awaiting, Ready, Refusal, Sending};
 use sender::values::Next;
 
@@ -48,9 +49,9 @@ fn act<C: Carrier, K: Check>(
     let stage = stage?;
     Some(match word {
         "start" => stage.start(message, text),
-        "put" => stage.put(message, &mut [0; 378], text),
+        "put" => stage.put(message, &mut [0; LONGEST_PACKET], text),
         "short" => stage.put(message, &mut [0; 30], text),
-        "other" => stage.put(b"?", &mut [0; 378], text),
+        "other" => stage.put(b"?", &mut [0; LONGEST_PACKET], text),
         "hear" => stage.hear(rest, text),
         "over" => stage.over(text),
         _ => stage,

@@ -5,8 +5,7 @@ ghost use Rattle.fragment.specs.Cutting.{count_of};
 ghost use Rattle.packet.specs.Responses.{response_at};
 ghost use Rattle.sender.specs.Laws.{NewRefusals, StartRefusals, TakesSerial, Sendable, PutRefusals, HearRefusals, OnSendable, Rows, Bounded};
 ghost use Rattle.sender.specs.Steps.{fresh_of, start_of, put_of, step_of, hear_of};
-ghost use Rattle.sender.specs.Courses.{InBounds};
-ghost use Rattle.sender.specs.Views.{OnInBounds, fresh_in, start_in, put_in, next_in, next_base, hear_in};
+ghost use Rattle.sender.specs.Views.{fresh_in, start_in, put_in, next_in, next_base, hear_in};
 
 use super::{Awaiting, InSession, Ready, Refusal, Sending};
 use crate::values::{Base, Course, Next, Session};
@@ -49,14 +48,14 @@ impl<C: Carrier, K: Check> Ready<C, K> {
         ensures serial { IfOk result (λ y. TakesSerial self.base y.session y.base) }
         ensures sendable { IfOk result (λ y. Sendable C.Carrier.terms y.session) }
         ensures bounded { IfOk result (λ y. Bounded C.Carrier.terms y.base y.session (count_of C.Carrier.terms (length message.now))) }
-        ensures bounds { IfOk result (InBounds 0) }
     {
         match self.base.begin::<C>(message.len()) {
             Err(fault) => Err(Refusal { kept: self, fault }),
             Ok((base, session)) => {
                 let Ready { base: _, kind } = self;
                 Ok(Sending {
-                    course: Course { base, session },
+                    base,
+                    session,
                     kind,
                 })
             }
@@ -76,20 +75,23 @@ impl<C: Carrier, K: Check> Sending<C, K> {
         ensures back { IfErr result (λ y. y.kept ≡ self) }
         ensures refusals { Sendable C.Carrier.terms self.session → PutRefusals C.Carrier.terms self.session message.now packet.old (put_in result packet.new).answer }
         ensures sendable { IfOk result (λ y. Sendable C.Carrier.terms self.session → Sendable C.Carrier.terms y.0.session) }
-        ensures bounds { IfOk result (λ y. InBounds 1 y.0) }
     {
-        match self.course.write::<C, K>(message, packet) {
+        match self.course().write::<C, K>(message, packet) {
             Err(fault) => Err(Refusal { kept: self, fault }),
             Ok(length) => {
-                let Sending { course, kind } = self;
-                let Course { base, session } = course;
+                let Sending {
+                    base,
+                    session,
+                    kind,
+                } = self;
                 let session = Session {
                     packets: session.packets + 1,
                     ..session
                 };
                 Ok((
                     Awaiting {
-                        course: Course { base, session },
+                        base,
+                        session,
                         kind,
                     },
                     length,
@@ -111,9 +113,8 @@ impl<C: Carrier, K: Check> Awaiting<C, K> {
         ensures refusals { HearRefusals C.Carrier.terms self.base self.session response.now (hear_in result) }
         ensures sendable { IfOk result (λ y. Sendable C.Carrier.terms self.session → OnSendable C.Carrier.terms (next_in y)) }
         ensures rows { IfOk result (λ y. Rows self.base self.session (option.Some (response_at response.now).code) (next_in y)) }
-        ensures bounds { IfOk result OnInBounds }
     {
-        match self.course.admit::<C>(response) {
+        match self.course().admit::<C>(response) {
             Err(fault) => Err(Refusal { kept: self, fault }),
             Ok(code) => Ok(self.learn(Some(code))),
         }
@@ -125,7 +126,6 @@ impl<C: Carrier, K: Check> Awaiting<C, K> {
         ensures kept { next_base result ≡ self.base }
         ensures sendable { Sendable C.Carrier.terms self.session → OnSendable C.Carrier.terms (next_in result) }
         ensures rows { Rows self.base self.session option.None (next_in result) }
-        ensures bounds { OnInBounds result }
     {
         self.learn(None)
     }
@@ -133,13 +133,17 @@ impl<C: Carrier, K: Check> Awaiting<C, K> {
     fn learn(self, heard: Option<Code>) -> Next<Sending<C, K>, Ready<C, K>>
         ensures value { next_in result ≡ step_of self.base self.session heard }
         ensures kept { next_base result ≡ self.base }
-        ensures bounds { OnInBounds result }
     {
-        let Awaiting { course, kind } = self;
-        let base = course.base;
-        match course.step(heard) {
+        let next = self.course().step(heard);
+        let Awaiting {
+            base,
+            session: _,
+            kind,
+        } = self;
+        match next {
             Next::On(session) => Next::On(Sending {
-                course: Course { base, session },
+                base,
+                session,
                 kind,
             }),
             Next::Ended(report, ()) => Next::Ended(report, Ready { base, kind }),
@@ -158,11 +162,21 @@ impl<C: Carrier, K: Check> Ready<C, K> {
 }
 
 impl<C: Carrier, K: Check, const OUT: u8> InSession<C, K, OUT> {
+    fn course(&self) -> Course
+        ensures { (result.base ≡ self.now.base) × (result.session ≡ self.now.session) }
+    {
+        Course {
+            base: self.base,
+            session: self.session,
+        }
+    }
+
     pub fn retire(self) -> (Base, Session)
         ensures { result ≡ (self.base, self.session) }
     {
         let InSession {
-            course: Course { base, session },
+            base,
+            session,
             kind: _,
         } = self;
         (base, session)

@@ -10,8 +10,8 @@ returns-in_err-front g c = answered g.C.Carrier.terms c.args.octets.now _ (searc
 pub returns-in_err-header : goal.returns-in_err-header
 returns-in_err-header g c = answered g.C.Carrier.terms c.args.octets.now _ (search rules)
 
-pub returns-then-length-from : goal.returns-then-length-from
-returns-then-length-from g c = answered g.C.Carrier.terms c.args.octets.now (Err (Length (length c.args.octets.now))) (search rules)
+pub returns-then-length-record_place : goal.returns-then-length-record_place
+returns-then-length-record_place g c = answered g.C.Carrier.terms c.args.octets.now (Err (Length (length c.args.octets.now))) (search rules)
 
 pub returns-in_err-read_records : goal.returns-in_err-read_records
 returns-in_err-read_records g c = answered g.C.Carrier.terms c.args.octets.now _ (search rules)
@@ -19,4 +19,4 @@ returns-in_err-read_records g c = answered g.C.Carrier.terms c.args.octets.now _
 pub returns : goal.returns
 returns g c =
     answered g.C.Carrier.terms c.args.octets.now
-    (Ok (record { header = c.in_ok-header.header; size = c.block_size-size.result; octets = c.args.octets })) (search rules)
+    (Ok (record { header = c.in_ok-header.header; size = c.block_size.result; octets = c.args.octets })) (search rules)

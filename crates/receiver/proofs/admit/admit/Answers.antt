@@ -11,6 +11,6 @@ returns-in-None g c =
     record {
       value =
           admitted g.C.Carrier.terms c.args.route c.args.phase c.args.octets.now c.args.room p c.if-room-lt-HEADER_OCTETS.false c.in_ok-packet.ensures.value
-          c.if-packet-route.false c.if-packet-route-2.false c.in-None.ensures;
+          c.in_ok-admit.ensures c.in-None.ensures;
       admitted = seen-admitted g.C.Carrier.terms g.met.C.Carrier.sound c.args.octets.now p c.in_ok-packet.ensures.value;
     }

@@ -1,28 +1,26 @@
--- The search over the records finds the first with a block past the last.
-use Rattle.std.proofs.Common.{◌≡◌, ◌+◌, ◌*◌, true, false, Some, sym, ap, ◌∙◌, rules, tests}
+-- The octets of the record that was found.
+use Rattle.std.proofs.Common.{Some, sym, ap, ◌∙◌, rules, tests, ◌+◌, ◌*◌}
 use Rattle.std.specs.Option.{option_map}
-use Rattle.std.proofs.lemmas.Iterator.{first_from_Range}
-use Rattle.packet.specs.Reading.{block_at, record_place}
+use Rattle.std.proofs.lemmas.Iterator.Adapters.{position_from-zero}
+use Rattle.std.proofs.lemmas.Iterator.Consumers.{YieldsList-from_first}
+use Rattle.std.proofs.lemmas.Iterator.Search.{position_from_yields_List}
+use Rattle.packet.specs.Reading.{record_place}
+use Rattle.packet.specs.Records.{records_left, records_in}
+use Rattle.packet.specs.Views.{block_in, seen_by}
 use Rattle.receiver.specs.Store.{is_past}
-use Rattle.receiver.proofs.Joining.{first-past}
+use Rattle.receiver.proofs.Joining.{past-position}
 use Rattle.receiver.proofs.admit.past.Goals as goal
 
 pub returns-in_err-i : goal.returns-in_err-i
 returns-in_err-i c =
     let p = c.args.packet.now in
-    c.from_residual.ensures
-    ∙ sym
-    (first-past p.size p.header p.octets.now c.args.blocks c.find.result c.from.result c.from.ensures
-    (first_from_Range _ _ _ _ (λ i. is_past c.args.blocks (block_at p.size p.header p.octets.now i) ≡ true) (λ i. is_past c.args.blocks (block_at p.size p.header p.octets.now i) ≡ false)
-    c.find.ensures.ran (λ x q k. search (rules, tests)) (λ x q k. search (rules, tests)))
-    ∙ ap (option_map (record_place p.size)) c.in_err-i.was)
+    let all = YieldsList-from_first block_in records_left (records_in (seen_by p)) c.records.ensures.all in
+    let found = position_from_yields_List (is_past c.args.blocks) c.position.new.self _ c.position.result c.position.ensures.ran all (λ x b q k. search (rules, tests)) ∙ position_from-zero (is_past c.args.blocks) (records_in (seen_by p)) in
+    c.from_residual.ensures ∙ ap (option_map (record_place p.size)) (sym c.in_err-i.was ∙ found) ∙ past-position p.size p.header p.octets.now c.args.blocks p.header.records 0
 
 pub returns : goal.returns
 returns c =
     let p = c.args.packet.now in
-    ap (λ n. Some (10 + c.in_ok-i.i * (n + 3))) c.from-2.ensures
-    ∙ sym
-    (first-past p.size p.header p.octets.now c.args.blocks c.find.result c.from.result c.from.ensures
-    (first_from_Range _ _ _ _ (λ i. is_past c.args.blocks (block_at p.size p.header p.octets.now i) ≡ true) (λ i. is_past c.args.blocks (block_at p.size p.header p.octets.now i) ≡ false)
-    c.find.ensures.ran (λ x q k. search (rules, tests)) (λ x q k. search (rules, tests)))
-    ∙ ap (option_map (record_place p.size)) c.in_ok-i.was)
+    let all = YieldsList-from_first block_in records_left (records_in (seen_by p)) c.records.ensures.all in
+    let found = position_from_yields_List (is_past c.args.blocks) c.position.new.self _ c.position.result c.position.ensures.ran all (λ x b q k. search (rules, tests)) ∙ position_from-zero (is_past c.args.blocks) (records_in (seen_by p)) in
+    ap (λ n. Some (10 + c.in_ok-i.i * (n + 3))) c.from.ensures ∙ ap (option_map (record_place p.size)) (sym c.in_ok-i.was ∙ found) ∙ past-position p.size p.header p.octets.now c.args.blocks p.header.records 0

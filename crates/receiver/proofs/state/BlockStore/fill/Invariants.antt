@@ -1,9 +1,8 @@
--- Filling in what is left gives what filling in all gives.
-use Rattle.std.proofs.Common.{◌≡◌, ◌-◌}
-use Rattle.receiver.specs.Store.{filled_from}
+-- Filling in the records to come gives what filling in all gives.
+use Rattle.packet.specs.Records.{records_left}
+use Rattle.receiver.specs.Store.{filled_by}
+use Rattle.receiver.proofs.Storing.{Stores}
 use Rattle.receiver.proofs.state.BlockStore.fill.Given as goal
 
-abbrev pub invariant-loop-i : goal.invariant-loop-i
-invariant-loop-i l =
-    filled_from l.packet.size l.packet.header l.packet.octets.now (l.packet.header.records - l.i) l.i l.self
-    ≡ filled_from l.packet.size l.packet.header l.packet.octets.now l.packet.header.records 0 l.initial.self
+abbrev pub invariant-loop-record : goal.invariant-loop-record
+invariant-loop-record l = let p = l.packet in Stores p.size (records_left l.record-iterator) l.self (filled_by p.size p.header p.octets.now l.initial.self)
