@@ -1,13 +1,11 @@
 // The answer to each line.
-ghost use Rattle.std.specs.Prelude.{◌≡◌, ◌++◌, string_bytes, OnOk};
-ghost use Rattle.fragment.specs.Names.{terms_of};
+ghost use Rattle.std.specs.Prelude.{◌≡◌, ◌<◌, ◌∷◌, ◌++◌, length, string_bytes, MatchOption, OnOk};
 ghost use Rattle.inspect.specs.Lines.{refusal_words, octets_answer, line_answer, answers_from, lines_of};
 
 use crate::packets::push_packet;
 use crate::responses::push_response;
 use fault::PacketFault;
-use fragment::carrier::{Carrier, DataCall, VoiceAlongCall};
-use fragment::name::CarrierName;
+use fragment::carrier::Carrier;
 use hex_digits::octets_of;
 use packet::read::read_packet;
 use packet::response::read_response;
@@ -39,35 +37,39 @@ fn push_octets<C: Carrier>(text: &mut String, line: usize, octets: &[u8]) -> Res
     }
 }
 
-fn push_line(
-    text: &mut String,
-    carrier: CarrierName,
-    line: usize,
-    digits: &[u8],
-) -> Result<(), AllocError>
-    ensures { OnOk result (string_bytes text.new ≡ string_bytes text.old ++ line_answer (terms_of carrier) line digits.now) }
+fn push_line<C: Carrier>(text: &mut String, line: usize, digits: &[u8]) -> Result<(), AllocError>
+    ensures { OnOk result (string_bytes text.new ≡ string_bytes text.old ++ line_answer C.Carrier.terms line digits.now) }
 {
-    let Some(octets) = octets_of(*text.allocator(), digits)? else {
-        return write!(text, "(unreadable {line})\n");
-    };
-    // A match, since types are chosen here.
-    match carrier {
-        CarrierName::Data => push_octets::<DataCall>(text, line, &octets),
-        CarrierName::Voice => push_octets::<VoiceAlongCall>(text, line, &octets),
+    match octets_of(*text.allocator(), digits)? {
+        Some(octets) => push_octets::<C>(text, line, &octets),
+        None => write!(text, "(unreadable {line})\n"),
+    }
+}
+
+// The first line of a text, and what comes behind its line feed; none where the text is at its end.
+fn first_line(text: &[u8]) -> Option<(&[u8], &[u8])>
+    ensures { MatchOption result (length text.now ≡ 0) (λ parts. (lines_of text.now ≡ parts.0.now ∷ lines_of parts.1.now) × (length parts.1.now < length text.now)) }
+{
+    if text.is_empty() {
+        return None;
+    }
+    match text.iter().position(|octet| *octet == b'\n') {
+        Some(end) => Some((&text[..end], &text[end + 1..])),
+        None => Some((text, &[])),
     }
 }
 
 // Appends the answer to each line of the input, the lines counted from 1.
-pub(crate) fn push_lines(
-    text: &mut String,
-    carrier: CarrierName,
-    input: &[u8],
-) -> Result<(), AllocError>
-    ensures { OnOk result (string_bytes text.new ≡ string_bytes text.old ++ answers_from (terms_of carrier) 1 (lines_of input.now)) }
+pub(crate) fn push_lines<C: Carrier>(text: &mut String, input: &[u8]) -> Result<(), AllocError>
+    ensures { OnOk result (string_bytes text.new ≡ string_bytes text.old ++ answers_from C.Carrier.terms 1 (lines_of input.now)) }
 {
-    for (index, line) in input.split_inclusive(|octet| *octet == b'\n').enumerate() {
-        let digits = line.strip_suffix(b"\n").unwrap_or(line);
-        push_line(text, carrier, index + 1, digits)?;
+    // Over what is left: a `for` over the library's split and `enumerate` gets no proof in a generic function.
+    let mut rest = input;
+    let mut line = 1;
+    while let Some((digits, more)) = first_line(rest) {
+        push_line::<C>(text, line, digits)?;
+        rest = more;
+        line += 1;
     }
     Ok(())
 }

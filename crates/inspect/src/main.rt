@@ -7,6 +7,7 @@ mod packets;
 mod responses;
 
 use anyhow::anyhow;
+use fragment::carrier::{DataCall, VoiceAlongCall};
 use fragment::name::CarrierName;
 use lines::push_lines;
 use std::io::Read;
@@ -21,7 +22,11 @@ fn main(rt: HostRuntime) -> anyhow::Result<()> {
     let mut input = Vec::new(heap);
     rt.stdin().read_to_end(&mut input)?;
     let mut text = String::new(heap);
-    push_lines(&mut text, carrier, &input)?;
+    // A match, since types are chosen here.
+    match carrier {
+        CarrierName::Data => push_lines::<DataCall>(&mut text, &input)?,
+        CarrierName::Voice => push_lines::<VoiceAlongCall>(&mut text, &input)?,
+    }
     rt.write_all(text.as_bytes())?;
     Ok(())
 }
