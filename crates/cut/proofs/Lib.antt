@@ -1,3 +1,4 @@
 pub mod Lengths
 pub mod Pieces
+pub mod Records
 pub mod Turns

@@ -16,13 +16,14 @@ use std::alloc::{AllocError, Global};
 fn image_of(heap: Global, packet: &Packet) -> Result<Vec<u8>, AllocError>
     ensures { IfOk result (λ image. image.items ≡ image_of (seen_by packet.now)) }
 {
-    (0..packet.header.records)
-        .flat_map(|i| packet
-            .block(usize::from(i))
-            .map(|block| block.octets)
-            .unwrap_or(&[]))
-        .copied()
-        .collect(heap)
+    let mut image = Vec::new(heap);
+    // Block by block: a chain over octets would copy each by itself.
+    for record in packet.records() {
+        if let Some(block) = record {
+            image.extend_from_slice(block.octets)?;
+        }
+    }
+    Ok(image)
 }
 
 // The data of an image, or none where its check is wrong.

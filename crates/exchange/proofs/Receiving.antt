@@ -41,14 +41,12 @@ heard-next f reply x panel route route' s st us resp p y same before e =
     ∙ ap (λ (r : Route). seen_of (received x reply (f r x.state x.store)) panel) same
 
 -- One hearing of a packet more.
-pub heard-then : (t : Terms) (number : List ℕ → ℕ) (packet packet' : List ℕ) (h : Hearing) (x : Reception) (panel : List ℕ) (route route' : Route)
+pub heard-then : (t : Terms) (number : List ℕ → ℕ) (packet : List ℕ) (h : Hearing) (x : Reception) (panel : List ℕ) (route route' : Route)
     (s : State) (st : List ℕ) (us : List Up) (resp : Option (List ℕ)) (p : List ℕ) (y : Seen)
-    → route' ≡ route → packet' ≡ packet → seen s st us resp p ≡ seen_of x panel
-    → y ≡ behind us (seen_of (heard_once t number route' packet' (begun s st resp) h) p)
+    → route' ≡ route → seen s st us resp p ≡ seen_of x panel
+    → y ≡ behind us (seen_of (heard_once t number route' packet (begun s st resp) h) p)
     → y ≡ seen_of (heard_once t number route packet x h) panel
-heard-then t number packet packet' h x panel route route' s st us resp p y same_route same_packet before e =
-    heard-next (λ route s st. call_of t number route s st (damaged t.block h packet) no_response) h.reply x panel route route' s st us resp p y same_route before
-    (e ∙ ap (λ (xs : List ℕ). behind us (seen_of (heard_once t number route' xs (begun s st resp) h) p)) same_packet)
+heard-then t number packet h = heard-next (λ route s st. call_of t number route s st (damaged t.block h packet) no_response) h.reply
 
 -- Hearings
 

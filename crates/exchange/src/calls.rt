@@ -5,7 +5,7 @@ ghost use Rattle.agreement.specs.Turns.{turn_of};
 ghost use Rattle.exchange.specs.Claims.{FreshReached, StartAgrees, TurnAgrees};
 ghost use Rattle.exchange.specs.Views.{fresh_pair_of, fresh_pair_in, start_in, pair_of, turn_in, brief_of, panel_of};
 
-use crate::hearing::Listener;
+use crate::hearing::Aired;
 use crate::pair::{Ends, Exchange, Transfer, Turned, let_go};
 use crate::settling::{join, settle};
 use air::airs::Air;
@@ -84,19 +84,17 @@ impl<C: Carrier, K: Check> Transfer<C, K> {
         ensures untouched { OnErr result ((store.new ≡ store.old) × (panel.new ≡ panel.old) × (air.new ≡ air.old)) }
         ensures agrees { TurnAgrees C.Carrier.terms K.Check.number self message.now store.old (F.Air.fates air.old) result store.new (F.Air.fates air.new) }
     {
-        let Ends { sender, receiver } = self;
+        let Ends {
+            sender,
+            mut receiver,
+        } = self;
         let mut packet = [0; LONGEST_PACKET];
         match sender.put_out(message, &mut packet) {
             Ok((sender, octets)) => {
-                let mut listener = Listener {
-                    receiver,
+                let aired = Aired {
                     packet: &packet[0..octets],
                 };
-                let received = listener.undergo(store, panel, air.ask());
-                let Listener {
-                    receiver,
-                    packet: _,
-                } = listener;
+                let received = aired.undergo(&mut receiver, store, panel, air.ask());
                 Ok(Turned {
                     ups: received.ups,
                     next: join(settle(sender, received.response), receiver),

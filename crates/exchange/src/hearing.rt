@@ -46,45 +46,47 @@ fn show(store: &[u8], up: Option<HandUp>, panel: &mut [u8], before: UpToThree<Up
     })
 }
 
-// A receiver, and the packet that it is to hear.
-pub(crate) struct Listener<'a, C, K> {
-    pub(crate) receiver: Receiver<C, K>,
+// A packet that went out, as a receiver hears it.
+#[derive(Drop)]
+pub(crate) struct Aired<'a> {
     pub(crate) packet: &'a [u8],
     ghost short: { length packet.now ≤ 378 },
 }
 
-impl<C: Carrier, K: Check> Listener<'_, C, K> {
+impl Aired<'_> {
     // The packet comes as it is heard.
-    fn receive(
-        &mut self,
+    fn receive<C: Carrier, K: Check>(
+        &self,
+        receiver: &mut Receiver<C, K>,
         store: &mut [u8],
         hearing: Hearing,
         response: &mut [u8],
     ) -> Result<Heard, EndFault>
-        ensures value { called result self.new.receiver.state store.new response.new ≡ call_of C.Carrier.terms K.Check.number self.old.receiver.route self.old.receiver.state store.old (damaged C.Carrier.terms.block hearing self.old.packet.now) response.old }
-        ensures kept { (self.new.receiver.route ≡ self.old.receiver.route) × (self.new.packet ≡ self.old.packet) }
+        ensures value { called result receiver.new.state store.new response.new ≡ call_of C.Carrier.terms K.Check.number receiver.old.route receiver.old.state store.old (damaged C.Carrier.terms.block hearing self.now.packet.now) response.old }
+        ensures kept { receiver.new.route ≡ receiver.old.route }
     {
         // Fixed memory: the ends have no heap.
         let mut octets = [0; LONGEST_PACKET];
         let heard = &mut octets[0..self.packet.len()];
         heard.copy_from_slice(self.packet);
         damage::<C>(heard, hearing);
-        self.receiver.packet(store, heard, response)
+        receiver.packet(store, heard, response)
     }
 
     // One hearing more, of at most three. A refused packet has no response, and only the first response heard counts.
-    fn hear(
-        &mut self,
+    fn hear<C: Carrier, K: Check>(
+        &self,
+        receiver: &mut Receiver<C, K>,
         store: &mut [u8],
         panel: &mut [u8],
         hearing: Hearing,
         before: Received,
     ) -> Received
-        ensures value { length (ups_in before.ups) < 3 → seen self.new.receiver.state store.new (ups_in result.ups) result.response panel.new ≡ behind (ups_in before.ups) (seen_of (heard_once C.Carrier.terms K.Check.number self.old.receiver.route self.old.packet.now (begun self.old.receiver.state store.old before.response) hearing) panel.old) }
-        ensures kept { (self.new.receiver.route ≡ self.old.receiver.route) × (self.new.packet ≡ self.old.packet) }
+        ensures value { length (ups_in before.ups) < 3 → seen receiver.new.state store.new (ups_in result.ups) result.response panel.new ≡ behind (ups_in before.ups) (seen_of (heard_once C.Carrier.terms K.Check.number receiver.old.route self.now.packet.now (begun receiver.old.state store.old before.response) hearing) panel.old) }
+        ensures kept { receiver.new.route ≡ receiver.old.route }
     {
         let mut response = [0; RESPONSE];
-        match self.receive(store, hearing, &mut response) {
+        match self.receive(receiver, store, hearing, &mut response) {
             Ok(heard) => Received {
                 ups: show(store, heard.up, panel, before.ups),
                 response: before.response.or(hearing.reply.then_some(response)),
@@ -94,19 +96,25 @@ impl<C: Carrier, K: Check> Listener<'_, C, K> {
     }
 
     // What a packet with this fate brings: perhaps the wait runs out first, and then come its hearings.
-    pub(crate) fn undergo(&mut self, store: &mut [u8], panel: &mut [u8], fate: Fate) -> Received
-        ensures value { seen self.new.receiver.state store.new (ups_in result.ups) result.response panel.new ≡ seen_of (all_heard C.Carrier.terms K.Check.number self.old.receiver.route self.old.packet.now (begun (waited fate.wait self.old.receiver.state) store.old None) (listed fate.heard)) panel.old }
-        ensures route { self.new.receiver.route ≡ self.old.receiver.route }
+    pub(crate) fn undergo<C: Carrier, K: Check>(
+        &self,
+        receiver: &mut Receiver<C, K>,
+        store: &mut [u8],
+        panel: &mut [u8],
+        fate: Fate,
+    ) -> Received
+        ensures value { seen receiver.new.state store.new (ups_in result.ups) result.response panel.new ≡ seen_of (all_heard C.Carrier.terms K.Check.number receiver.old.route self.now.packet.now (begun (waited fate.wait receiver.old.state) store.old None) (listed fate.heard)) panel.old }
+        ensures route { receiver.new.route ≡ receiver.old.route }
     {
         if fate.wait {
-            self.receiver.wait_over();
+            receiver.wait_over();
         }
         let mut received = Received {
             ups: UpToThree::Empty,
             response: None,
         };
         for hearing in fate.heard {
-            received = self.hear(store, panel, hearing, received);
+            received = self.hear(receiver, store, panel, hearing, received);
         }
         received
     }

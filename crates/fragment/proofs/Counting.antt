@@ -2,7 +2,9 @@
 use Rattle.std.proofs.Common.{◌≡◌, ℕ, zero, suc, ◌+◌, ◌-◌, ◌*◌, ◌/◌, ◌%◌, ◌<◌, ◌≤◌, min, inl, inr, mod-lt, suc-mul, div-lt_iff_lt-mul, add-mul, mul-le-mul, le_refl, div-add-mod', zero-mul, arith}
 use Rattle.std.proofs.lemmas.Bool.{cases_lt}
 use Rattle.std.proofs.lemmas.Grind.{div_ceil_times}
-use Rattle.fragment.specs.Counts.{parts_of, Least}
+use Rattle.fragment.specs.Carriers.{Terms, Sound}
+use Rattle.fragment.specs.Counts.{parts_of, Least, capacity}
+use Rattle.fragment.specs.Cutting.{greatest}
 
 pub parts-least : (size octets : ℕ) → 1 ≤ size → Least size octets (parts_of size octets)
 parts-least size octets h =
@@ -47,3 +49,9 @@ parts-some {size = size} {octets = octets} {n = n} l h = some n l.holds
     some : (k : ℕ) → octets ≤ k * size → 1 ≤ k
     some zero p = let z : zero * size ≡ 0 = zero-mul size in omega arith
     some (suc k) p = omega arith
+
+-- No carrier's longest message is longer than the data call's.
+pub greatest-bound : (t : Terms) → Sound t → greatest t ≤ 161788
+greatest-bound t s =
+    let octets : capacity t ≤ 316 = let h = s.few_octets in omega arith in
+    omega (arith, mul-le-mul s.few_fragments octets)

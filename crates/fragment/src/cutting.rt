@@ -35,7 +35,12 @@ pub fn fragment_count<C: Carrier>(message: usize) -> Result<usize, EndFault>
     if message > C::fragment_limit() * capacity - SERIAL_OCTETS {
         return Err(EndFault::TooLong);
     }
-    Ok((message + SERIAL_OCTETS).div_ceil(capacity))
+    // No count is above the limit here. Said again, the compiler sees it too, and has nothing to work out for a carrier of one fragment.
+    Ok(
+        (message + SERIAL_OCTETS)
+            .div_ceil(capacity)
+            .min(C::fragment_limit()),
+    )
 }
 
 impl<C: Carrier> Fragment<C> {

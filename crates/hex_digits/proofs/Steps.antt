@@ -1,9 +1,10 @@
 -- One octet more, written or read.
-use Rattle.std.proofs.Common.{◌≡◌, ℕ, ◌+◌, ◌-◌, ◌*◌, ◌/◌, ◌%◌, ◌^◌, ◌<◌, false, List, [], ◌∷◌, ◌++◌, length, get_or, take, drop, Some, None, Option, sym, refl, ap, append_assoc, arith}
-use Rattle.std.proofs.lemmas.Fmt.{hex_byte}
-use Rattle.std.proofs.lemmas.List.{take_more}
-use Rattle.std.specs.Fmt.{digits, padded_integral, format_spec}
+use Rattle.std.proofs.Common.{◌≡◌, ℕ, ◌+◌, ◌*◌, ◌/◌, ◌%◌, ◌<◌, ◌≤◌, List, [], ◌∷◌, ◌++◌, length, get_or, set, take, drop, Some, None, Option, Ok, Err, Result, zero, suc, sym, ◌∙◌, refl, ap, append_assoc, arith}
+use Rattle.std.proofs.lemmas.List.{take_more, take_more_set, length-set}
 use Rattle.std.specs.Option.{option_map}
+use Rattle.std.specs.Result.{IsOk, MatchResult}
+use Rattle.std.specs.Str.{IsAscii}
+use Rattle.std.proofs.lemmas.Bool.Decides.{nat_tests}
 use Rattle.hex_digits.specs.Digits.{digit_of, value_of, hex_of, before, octets_of}
 
 -- An octet goes from the front of those to come to the end of those before.
@@ -23,13 +24,44 @@ octets-more front (a ∷ []) high low p q = absurd (not_none q)
 octets-more front (a ∷ (b ∷ digits)) high low p q = rw (← p, ← q) (moved front (16 * high + low) (octets_of digits))
 
 -- The digits of one octet more, as a format writes them.
-hex-append : (front more : List ℕ) → hex_of (front ++ more) ≡ hex_of front ++ hex_of more
+pub hex-append : (front more : List ℕ) → hex_of (front ++ more) ≡ hex_of front ++ hex_of more
 hex-append [] more = refl
 hex-append (octet ∷ front) more =
     ap (λ digits. digit_of (octet / 16) ∷ (digit_of (octet % 16) ∷ digits)) (hex-append front more)
 
-pub hex-next : (octets : List ℕ) (i : ℕ) → i < length octets → get_or octets i 0 < 256
-    → hex_of (take i octets) ++ padded_integral (format_spec 32 0 4 2 (2 ^ 64 - 1)) false [] (digits 16 false (get_or octets i 0))
-    ≡ hex_of (take (i + 1) octets)
-hex-next octets i h fits =
-    rw (hex_byte false (get_or octets i 0) fits, take_more octets i 0 h) (sym (hex-append (take i octets) (get_or octets i 0 ∷ [])))
+-- Digits are ASCII.
+digit-small : (octet : ℕ) → octet < 256 → (digit_of (octet / 16) < 128) × (digit_of (octet % 16) < 128)
+digit-small octet h = (grind (arith, nat_tests), grind (arith, nat_tests))
+
+pub hex-ascii : (octets : List ℕ) → ((k : ℕ) → get_or octets k 0 < 256) → IsAscii (hex_of octets)
+hex-ascii [] h i = omega arith
+hex-ascii (octet ∷ octets) h zero = (digit-small octet (h 0)).0
+hex-ascii (octet ∷ octets) h (suc zero) = (digit-small octet (h 0)).1
+hex-ascii (octet ∷ octets) h (suc (suc i)) = hex-ascii octets (λ k. h (suc k)) i
+
+-- What is text is read as text.
+pub text-read : {X E : Type 0} (U : Type 0) (P : X → Type 0) (Q : E → Type 0) → (r : Result X E) → U → MatchResult r P (λ e. ¬ U × Q e) → IsOk r
+text-read U P Q (Ok x) u told = refl
+text-read U P Q (Err e) u told = absurd (told.0 u)
+
+-- The digits of one octet more, put behind those that stand in front of a buffer.
+pub digits-next : (buffer group : List ℕ) (i : ℕ) → length buffer ≡ 256 → length group ≤ 128 → i < length group → take (2 * i) buffer ≡ hex_of (take i group)
+    → take (2 * (i + 1)) (set (set buffer (2 * i) (digit_of (get_or group i 0 / 16))) (2 * i + 1) (digit_of (get_or group i 0 % 16)))
+    ≡ hex_of (take (i + 1) group)
+digits-next buffer group i room few h before =
+    let high = digit_of (get_or group i 0 / 16) in
+    let low = digit_of (get_or group i 0 % 16) in
+    let one = take_more_set buffer (2 * i) high (omega arith) in
+    let there : 2 * i + 1 < length (set buffer (2 * i) high) = rw (length-set buffer (2 * i) high) (omega arith) in
+    let two = take_more_set (set buffer (2 * i) high) (2 * i + 1) low there in
+    let count : 2 * (i + 1) ≡ (2 * i + 1) + 1 = omega arith in
+    rw (count, two, one, before, take_more group i 0 h)
+    (append_assoc (hex_of (take i group)) (high ∷ []) (low ∷ []) ∙ sym (hex-append (take i group) (get_or group i 0 ∷ [])))
+
+-- The digits of one group more, behind those that are written.
+pub group-next : (written text front back rest all : List ℕ) → text ≡ hex_of front → front ++ back ≡ rest → written ++ hex_of rest ≡ all
+    → (written ++ text) ++ hex_of back ≡ all
+group-next written text front back rest all told cut before =
+    append_assoc written text (hex_of back)
+    ∙ (ap (λ digits. written ++ (digits ++ hex_of back)) told
+    ∙ (ap (λ digits. written ++ digits) (sym (hex-append front back)) ∙ (ap (λ octets. written ++ hex_of octets) cut ∙ before)))

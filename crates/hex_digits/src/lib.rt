@@ -1,8 +1,9 @@
 // Octets as lowercase hexadecimal digits: written and read.
 #![tactic(auto)]
 
-ghost use Rattle.std.specs.Prelude.{◌≡◌, ◌+◌, ◌<◌, ◌++◌, IfOk, Some, vec_items, MatchResult};
+ghost use Rattle.std.specs.Prelude.{◌≡◌, ◌+◌, ◌*◌, ◌<◌, ◌≤◌, ◌++◌, length, take, IfOk, Some, vec_items, MatchResult};
 ghost use Rattle.std.specs.Option.{option_map};
+ghost use Rattle.std.specs.Str.{IsAscii};
 ghost use Rattle.hex_digits.specs.Digits.{digit_of, value_of, hex_of, octets_of};
 
 use std::alloc::{AllocError, Global};
@@ -16,10 +17,30 @@ impl fmt::Display for Hex<'_> {
     ghost output = { λ octets. Some (hex_of octets.0.now) };
 
     fn fmt<W: fmt::Write>(&self, f: &mut fmt::Formatter<W>) -> fmt::Result {
-        for &octet in self.0 {
-            write!(f, "{octet:02x}")?;
+        let mut digits = [0; 2 * GROUP];
+        let mut rest = self.0;
+        while !rest.is_empty() {
+            let (group, more) = rest.split_at(rest.len().min(GROUP));
+            put_digits(&mut digits, group);
+            f.write_str(str::from_utf8(&digits[..2 * group.len()]).unwrap())?;
+            rest = more;
         }
         Ok(())
+    }
+}
+
+// Octets whose digits are written at once, since a write costs as much as many digits.
+const GROUP: usize = 128;
+
+// Puts the digits of a group to the front of a buffer.
+fn put_digits(buffer: &mut [u8; 2 * GROUP], group: &[u8])
+    requires { length group.now ≤ 128 }
+    ensures digits { take (2 * length group.now) buffer.new ≡ hex_of group.now }
+    ensures ascii { IsAscii (hex_of group.now) }
+{
+    for (i, octet) in group.iter().enumerate() {
+        buffer[2 * i] = digit_of(octet / 16);
+        buffer[2 * i + 1] = digit_of(octet % 16);
     }
 }
 

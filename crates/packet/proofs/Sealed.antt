@@ -1,6 +1,6 @@
 -- The parts of an image: data, pad and check, place by place.
-use Rattle.std.proofs.Common.{◌≡◌, ℕ, ◌+◌, ◌-◌, ◌*◌, ◌<◌, ◌≤◌, min, List, [], ◌++◌, length, take, drop, replicate, sym, refl, ap, ◌∙◌, mul-le-mul_right, suc-mul, arith, rules}
-use Rattle.std.proofs.lemmas.List.{length-append, length-replicate, length-take-le, length-drop, take-replicate, append-nil, append_assoc, same_lists, places}
+use Rattle.std.proofs.Common.{◌≡◌, ℕ, ◌+◌, ◌-◌, ◌*◌, ◌<◌, ◌≤◌, min, List, [], ◌++◌, length, get_or, take, drop, replicate, sym, refl, ap, ◌∙◌, mul-le-mul_right, suc-mul, arith, rules}
+use Rattle.std.proofs.lemmas.List.{length-append, length-replicate, length-take-le, length-drop, get_or_append_left, get_or-append_right, get_or-take, get_or-drop, get_or-replicate, take-replicate, append-nil, append_assoc, same_lists, places}
 use Rattle.fragment.specs.Streams.{stream_of, four_octets}
 use Rattle.packet.specs.declared.image.Image.{Image}
 use Rattle.packet.specs.Images.{covered, block_of}
@@ -12,6 +12,36 @@ length_part xs from count h = length-take-le count (drop from xs) (let e = lengt
 
 pub length-covered : (xs : List ℕ) (pad : ℕ) → length (covered xs pad) ≡ length xs + pad
 length-covered xs pad = length-append xs (replicate pad 0) ∙ ap (λ n. length xs + n) (length-replicate pad 0)
+
+-- An octet of the data is that of the stream.
+pub in-data : (xs four : List ℕ) (from count pad place : ℕ) → from + count ≤ length xs → place < count
+    → get_or (covered (take count (drop from xs)) pad ++ four) place 0 ≡ get_or xs (from + place) 0
+in-data xs four from count pad place h l =
+    let n = length_part xs from count h in
+    let c = length-covered (take count (drop from xs)) pad in
+    get_or_append_left (covered (take count (drop from xs)) pad) four 0 place (omega arith)
+    ∙ get_or_append_left (take count (drop from xs)) (replicate pad 0) 0 place (omega arith)
+    ∙ get_or-take count (drop from xs) place 0 l
+    ∙ get_or-drop from xs place 0
+
+-- The pad is zeros.
+pub in-pad : (content four : List ℕ) (pad place : ℕ) → length content ≤ place → place < length content + pad
+    → get_or (covered content pad ++ four) place 0 ≡ 0
+in-pad content four pad place h l =
+    let c = length-covered content pad in
+    get_or_append_left (covered content pad) four 0 place (omega arith)
+    ∙ get_or-append_right content (replicate pad 0) (length content) place 0 refl h
+    ∙ get_or-replicate pad (place - length content) 0 0 (omega arith)
+
+-- The check stands behind them.
+pub in-check : (content four : List ℕ) (pad place : ℕ) → length content + pad ≤ place
+    → get_or (covered content pad ++ four) place 0 ≡ get_or four (place - (length content + pad)) 0
+in-check content four pad place h =
+    get_or-append_right (covered content pad) four (length content + pad) place 0 (length-covered content pad) h
+
+-- An octet of a block is that of the image.
+pub in_block : (image : List ℕ) (size j i : ℕ) → i < size → get_or (block_of size image j) i 0 ≡ get_or image (j * size + i) 0
+in_block image size j i h = get_or-take size (drop (j * size) image) i 0 h ∙ get_or-drop (j * size) image i 0
 
 -- A part of two joined lists is a part of the first and then a part of the second.
 pub part-of-both : (xs ys : List ℕ) (from to : ℕ) → from ≤ to → to ≤ length xs + length ys

@@ -89,7 +89,8 @@ impl State {
             self.idle();
             return Heard::only(Code::OutOfStep);
         };
-        if g.number == 0 {
+        let last = g.number == 0;
+        if last {
             return self.complete(store, filled, check, g);
         }
         self.phase = Phase::Waiting(g.number);

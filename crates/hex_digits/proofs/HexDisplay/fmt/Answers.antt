@@ -1,12 +1,21 @@
--- Each turn writes the digits of one octet.
-use Rattle.std.proofs.Common.{arith, rules}
-use Rattle.std.proofs.Output.{has_written_append, has_written_of_eq}
-use Rattle.hex_digits.proofs.Steps.{hex-next}
+-- Each turn writes the digits of one group.
+use Rattle.std.proofs.Common.{◌++◌, ◌∙◌, refl}
+use Rattle.std.proofs.lemmas.Grind.{put_two}
+use Rattle.std.proofs.lemmas.List.{take-append-drop}
+use Rattle.std.proofs.lemmas.Result.{MatchResult-at_ok}
+use Rattle.std.proofs.lemmas.Str.{IsUtf8-from_ascii}
+use Rattle.hex_digits.proofs.Steps.{group-next, text-read}
 use Rattle.hex_digits.proofs.HexDisplay.fmt.Goals as goal
 
-pub loop-octet-preserved : goal.loop-octet-preserved
-loop-octet-preserved g c = λ plain.
-    let octets = c.args.self.now.0.now in
-    let i = c.loop-octet.octet-index in
-    has_written_of_eq _ _ _ _ _ (hex-next octets i c.loop-octet-test.true (omega arith))
-    (has_written_append _ _ _ _ _ _ (c.loop-octet.invariant plain) (search rules))
+pub unwrap-requires : goal.unwrap-requires
+unwrap-requires g c =
+    text-read _ _ _ _ (IsUtf8-from_ascii _ (rw c.put_digits.ensures.digits c.put_digits.ensures.ascii)) c.from_utf8.ensures.cases
+
+pub loop-rest-preserved : goal.loop-rest-preserved
+loop-rest-preserved g c = λ plain.
+    let before = c.loop-rest.invariant plain in
+    let text = (MatchResult-at_ok _ _ _ c.unwrap.ensures c.from_utf8.ensures.cases).0 in (
+      before.0 ++ c.unwrap.result.now,
+      put_two _ _ _ _ _ _ _ before.1 (c.in_ok-write_str.ensures.writes before.1.plain refl) refl,
+      group-next _ _ _ _ _ _ (text ∙ c.put_digits.ensures.digits) (rw (c.split_at.ensures.front, c.split_at.ensures.back) (take-append-drop _ _)) before.2,
+    )
