@@ -23,8 +23,8 @@ octets-more front [] high low p q = absurd (not_none p)
 octets-more front (a ∷ []) high low p q = absurd (not_none q)
 octets-more front (a ∷ (b ∷ digits)) high low p q = rw (← p, ← q) (moved front (16 * high + low) (octets_of digits))
 
--- The digits of one octet more, as a format writes them.
-pub hex-append : (front more : List ℕ) → hex_of (front ++ more) ≡ hex_of front ++ hex_of more
+-- The digits of two lists joined.
+hex-append : (front more : List ℕ) → hex_of (front ++ more) ≡ hex_of front ++ hex_of more
 hex-append [] more = refl
 hex-append (octet ∷ front) more =
     ap (λ digits. digit_of (octet / 16) ∷ (digit_of (octet % 16) ∷ digits)) (hex-append front more)
@@ -45,18 +45,18 @@ text-read U P Q (Ok x) u told = refl
 text-read U P Q (Err e) u told = absurd (told.0 u)
 
 -- The digits of one octet more, put behind those that stand in front of a buffer.
-pub digits-next : (buffer group : List ℕ) (i : ℕ) → length buffer ≡ 256 → length group ≤ 128 → i < length group → take (2 * i) buffer ≡ hex_of (take i group)
-    → take (2 * (i + 1)) (set (set buffer (2 * i) (digit_of (get_or group i 0 / 16))) (2 * i + 1) (digit_of (get_or group i 0 % 16)))
-    ≡ hex_of (take (i + 1) group)
-digits-next buffer group i room few h before =
-    let high = digit_of (get_or group i 0 / 16) in
-    let low = digit_of (get_or group i 0 % 16) in
+pub digits-next : (buffer group : List ℕ) (i high low : ℕ) → length buffer ≡ 256 → length group ≤ 128 → i < length group
+    → high ≡ digit_of (get_or group i 0 / 16) → low ≡ digit_of (get_or group i 0 % 16) → take (2 * i) buffer ≡ hex_of (take i group)
+    → take (2 * (i + 1)) (set (set buffer (2 * i) high) (2 * i + 1) low) ≡ hex_of (take (i + 1) group)
+digits-next buffer group i high low room few h eh el before =
     let one = take_more_set buffer (2 * i) high (omega arith) in
     let there : 2 * i + 1 < length (set buffer (2 * i) high) = rw (length-set buffer (2 * i) high) (omega arith) in
     let two = take_more_set (set buffer (2 * i) high) (2 * i + 1) low there in
     let count : 2 * (i + 1) ≡ (2 * i + 1) + 1 = omega arith in
+    let digits : hex_of (get_or group i 0 ∷ []) ≡ high ∷ (low ∷ []) = rw (eh, el) refl in
     rw (count, two, one, before, take_more group i 0 h)
-    (append_assoc (hex_of (take i group)) (high ∷ []) (low ∷ []) ∙ sym (hex-append (take i group) (get_or group i 0 ∷ [])))
+    (append_assoc (hex_of (take i group)) (high ∷ []) (low ∷ [])
+    ∙ (ap (λ (l : List ℕ). hex_of (take i group) ++ l) (sym digits) ∙ sym (hex-append (take i group) (get_or group i 0 ∷ []))))
 
 -- The digits of one group more, behind those that are written.
 pub group-next : (written text front back rest all : List ℕ) → text ≡ hex_of front → front ++ back ≡ rest → written ++ hex_of rest ≡ all

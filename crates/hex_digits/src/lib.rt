@@ -18,12 +18,9 @@ impl fmt::Display for Hex<'_> {
 
     fn fmt<W: fmt::Write>(&self, f: &mut fmt::Formatter<W>) -> fmt::Result {
         let mut digits = [0; 2 * GROUP];
-        let mut rest = self.0;
-        while !rest.is_empty() {
-            let (group, more) = rest.split_at(rest.len().min(GROUP));
+        for group in self.0.chunks(GROUP) {
             put_digits(&mut digits, group);
             f.write_str(str::from_utf8(&digits[..2 * group.len()]).unwrap())?;
-            rest = more;
         }
         Ok(())
     }
